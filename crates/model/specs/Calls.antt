@@ -1,0 +1,205 @@
+-- The ten calls. "The calls" and "Codes and their order": for each call its refusals in their order, and what it does.
+use Prim.Native.Nat.{ℕ, suc, _-_}
+use mathlib.Core.Bool.{Bool, true, false, not, _&&_, cond}
+use mathlib.Core.List.{List, [], _∷_, _++_}
+use lib.Dec.{eqb, ltb, leb}
+use lib.ListN.{length, set, replicate}
+use Rattle.model.specs.Lists.{every, any, without, firstPlace, filledTo}
+use Rattle.model.specs.Limits.{users, roles, privileges, facts, mostRows, mostCertificates, stateSize, listSize, accepted, unsoundState, outOfRange, alreadyActive, noRuleSatisfied, tableFull, notInAppointerRole, standsAlready, noSuchCertificate, mayNotRevoke, writtenTwice, notActive}
+use Rattle.model.specs.Records.{Tables, Policy, State, World, worldOf, withRows}
+use Rattle.model.specs.Conditions.{kindNumbered, active, satisfied, supported}
+use Rattle.model.specs.Left.{left}
+use Rattle.model.specs.Sound.{sameCertificate}
+use Rattle.model.specs.Effective.{direct, effectively}
+use Rattle.model.specs.Chain.{written, someTwice}
+use Rattle.model.specs.Outcome.{Outcome, Refusal, _⇒_, firstCode, decided, Effect, Course, Given, given, judged}
+use Rattle.model.specs.declared.Kind.{Kind}
+use Rattle.model.specs.declared.Row.{Row}
+use Rattle.model.specs.declared.Certificate.{Certificate}
+
+pub data Call : Type 0 where
+  fresh : Call
+  activate : (user role : ℕ) → Call
+  appoint : (appointer appointee kind : ℕ) → Call
+  revoke : (caller appointee kind appointer : ℕ) → Call
+  withdraw : (appointee kind appointer : ℕ) → Call
+  environment : (fact value : ℕ) → Call
+  logout : (user : ℕ) → Call
+  invoke : (user privilege : ℕ) → Call
+  effective : (user role privilege : ℕ) → Call
+  chain : (user role : ℕ) → Call
+
+-- 3: "an argument out of range, a kind without a row, a chain list not of 256"
+abbrev pub unless : List Bool → Refusal
+unless inRange = not (every inRange) ⇒ outOfRange
+
+abbrev pub isUser : ℕ → Bool
+isUser u = ltb u users
+
+abbrev pub isRole : ℕ → Bool
+isRole q = ltb q roles
+
+abbrev pub isPrivilege : ℕ → Bool
+isPrivilege x = ltb x privileges
+
+abbrev pub hasRow : Policy → ℕ → Bool
+hasRow p k = ltb k (length (p .kinds))
+
+-- the rows whose membership conditions hold no more fall, and "the second number is the rows lost"
+unfoldable pub settled : Given → State → Effect
+settled g t =
+    let rest = left (supported (worldOf (g .policy) t)) (t .rows) in
+    record { second = length (g .state .rows) - length rest; state = withRows t rest; list = g .list }
+
+-- a call that answers and changes nothing
+abbrev pub told : Given → Bool → Effect
+told g so = record { second = cond so 1 0; state = g .state; list = g .list }
+
+-- "Activate (user, role): takes the lowest-numbered rule for the role whose conditions all hold, appends the row, second = the
+-- rule."
+abbrev pub isSatisfied : Policy → State → ℕ → ℕ → Bool
+isSatisfied p t u q = any (satisfied (worldOf p t) (t .rows) u q) (p .rules)
+
+abbrev pub lowestRule : Policy → State → ℕ → ℕ → ℕ
+lowestRule p t u q = firstPlace (satisfied (worldOf p t) (t .rows) u q) (p .rules)
+
+unfoldable pub activateOn : Given → ℕ → ℕ → Course
+activateOn g u q =
+    record {
+      refusals =
+          unless (isUser u ∷ isRole q ∷ [])
+          ∷ (active (g .state .rows) u q ⇒ alreadyActive)
+          ∷ (not (isSatisfied (g .policy) (g .state) u q) ⇒ noRuleSatisfied)
+          ∷ (leb mostRows (length (g .state .rows)) ⇒ tableFull)
+          ∷ [];
+      effect =
+          let rule = lowestRule (g .policy) (g .state) u q in
+          record { second = rule; state = withRows (g .state) (g .state .rows ++ (record { user = u; role = q; rule = rule } ∷ [])); list = g .list };
+    }
+
+-- "a removed row closes its gap"
+abbrev pub isStanding : State → Certificate → Bool
+isStanding t c = any (sameCertificate c) (t .certificates)
+
+abbrev pub withCertificates : State → List Certificate → State
+withCertificates t certificates = record { facts = t .facts; rows = t .rows; certificates = certificates }
+
+abbrev pub withoutCertificate : State → Certificate → State
+withoutCertificate t c = withCertificates t (without (sameCertificate c) (t .certificates))
+
+-- "Appoint (appointer, appointee, kind): the appointer must be active in the kind's appointer role. Second 0. Appointing oneself
+-- is allowed."
+unfoldable pub appointOn : Given → ℕ → Certificate → Course
+appointOn g appointer c =
+    record {
+      refusals =
+          unless (isUser appointer ∷ isUser (c .appointee) ∷ hasRow (g .policy) (c .kind) ∷ [])
+          ∷ (not (active (g .state .rows) appointer (kindNumbered (g .policy) (c .kind) .appointer)) ⇒ notInAppointerRole)
+          ∷ (isStanding (g .state) c ⇒ standsAlready)
+          ∷ (leb mostCertificates (length (g .state .certificates)) ⇒ tableFull)
+          ∷ [];
+      effect = record { second = 0; state = withCertificates (g .state) (g .state .certificates ++ (c ∷ [])); list = g .list };
+    }
+
+-- "mode 0 wants caller = appointer, active or not; mode 1 wants the caller active in the appointer role; mode 2 always refuses."
+abbrev pub mayRevoke : List Row → Kind → ℕ → ℕ → Bool
+mayRevoke rows k caller appointer = cond (eqb (k .mode) 0) (eqb caller appointer) (cond (eqb (k .mode) 1) (active rows caller (k .appointer)) false)
+
+-- "Revoke (caller, appointee, kind, appointer)"
+unfoldable pub revokeOn : Given → ℕ → Certificate → Course
+revokeOn g caller c =
+    record {
+      refusals =
+          unless (isUser caller ∷ isUser (c .appointee) ∷ hasRow (g .policy) (c .kind) ∷ isUser (c .appointer) ∷ [])
+          ∷ (not (isStanding (g .state) c) ⇒ noSuchCertificate)
+          ∷ (not (mayRevoke (g .state .rows) (kindNumbered (g .policy) (c .kind)) caller (c .appointer)) ⇒ mayNotRevoke)
+          ∷ [];
+      effect = settled g (withoutCertificate (g .state) c);
+    }
+
+-- "Withdraw (appointee, kind, appointer): by the system, whichever the mode."
+unfoldable pub withdrawOn : Given → Certificate → Course
+withdrawOn g c =
+    record {
+      refusals =
+          unless (isUser (c .appointee) ∷ hasRow (g .policy) (c .kind) ∷ isUser (c .appointer) ∷ [])
+          ∷ (not (isStanding (g .state) c) ⇒ noSuchCertificate)
+          ∷ [];
+      effect = settled g (withoutCertificate (g .state) c);
+    }
+
+-- "Environment (fact, value 0 or 1)."
+abbrev pub withFact : State → ℕ → ℕ → State
+withFact t f value = record { facts = set (t .facts) f value; rows = t .rows; certificates = t .certificates }
+
+unfoldable pub environmentOn : Given → ℕ → ℕ → Course
+environmentOn g f value =
+    record {
+      refusals = unless (ltb f facts ∷ ltb value 2 ∷ []) ∷ [];
+      effect = settled g (withFact (g .state) f value);
+    }
+
+-- "Logout (user): drops all the user's rows. Certificates the user issued or holds stay. Without rows it is accepted with 0."
+abbrev pub ofUser : ℕ → Row → Bool
+ofUser u r = eqb (r .user) u
+
+unfoldable pub logoutOn : Given → ℕ → Course
+logoutOn g u =
+    record {
+      refusals = unless (isUser u ∷ []) ∷ [];
+      effect =
+          let rest = without (ofUser u) (g .state .rows) in
+          record { second = length (g .state .rows) - length rest; state = withRows (g .state) rest; list = g .list };
+    }
+
+-- "Invoke (user, privilege): second 1 if some active role of the user has the right, else 0."
+unfoldable pub allowed : Policy → List Row → ℕ → ℕ → Bool
+allowed p rows u x = any (λ (r : Row). eqb (r .user) u && direct p (r .role) x) rows
+
+unfoldable pub invokeOn : Given → ℕ → ℕ → Course
+invokeOn g u x =
+    record {
+      refusals = unless (isUser u ∷ isPrivilege x ∷ []) ∷ [];
+      effect = told g (allowed (g .policy) (g .state .rows) u x);
+    }
+
+-- "Effective (user, role, privilege): definition 10. Second 1 if in the role's effective set, else 0."
+unfoldable pub effectiveOn : Given → ℕ → ℕ → ℕ → Course
+effectiveOn g u q x =
+    record {
+      refusals = unless (isUser u ∷ isRole q ∷ isPrivilege x ∷ []) ∷ (not (active (g .state .rows) u q) ⇒ notActive) ∷ [];
+      effect = told g (effectively (g .policy) (g .state .rows) u q x);
+    }
+
+-- "Chain (user, role, a lent list of 256 numbers): .. The rest of the list is zero. The second number, from 1 to 256, is the
+-- number of roles written." A walk of one role more than there are would have one twice
+unfoldable pub chainOn : Given → ℕ → ℕ → Course
+chainOn g u q =
+    let walk = written (g .policy) (g .state .rows) u (suc roles) q in
+    record {
+      refusals =
+          unless (isUser u ∷ isRole q ∷ eqb (length (g .list)) listSize ∷ [])
+          ∷ (not (active (g .state .rows) u q) ⇒ notActive)
+          ∷ (someTwice walk ⇒ writtenTwice)
+          ∷ [];
+      effect = record { second = length walk; state = g .state; list = filledTo listSize walk };
+    }
+
+-- "Fresh: writes all zeros; second 0. Refuses 2 only for a wrong length."
+unfoldable pub freshOn : List ℕ → List ℕ → Outcome
+freshOn s list =
+    decided (firstCode ((not (eqb (length s) stateSize) ⇒ unsoundState) ∷ [])) s list
+    (record { code = accepted; second = 0; state = replicate stateSize 0; list = list })
+
+-- each call, for any tables, any state, any list and any numbers
+unfoldable pub answer : Tables → List ℕ → List ℕ → Call → Outcome
+answer t s list fresh = freshOn s list
+answer t s list (activate u q) = judged t s list (activateOn (given t s list) u q)
+answer t s list (appoint appointer appointee k) = judged t s list (appointOn (given t s list) appointer (record { appointee = appointee; kind = k; appointer = appointer }))
+answer t s list (revoke caller appointee k appointer) = judged t s list (revokeOn (given t s list) caller (record { appointee = appointee; kind = k; appointer = appointer }))
+answer t s list (withdraw appointee k appointer) = judged t s list (withdrawOn (given t s list) (record { appointee = appointee; kind = k; appointer = appointer }))
+answer t s list (environment f value) = judged t s list (environmentOn (given t s list) f value)
+answer t s list (logout u) = judged t s list (logoutOn (given t s list) u)
+answer t s list (invoke u x) = judged t s list (invokeOn (given t s list) u x)
+answer t s list (effective u q x) = judged t s list (effectiveOn (given t s list) u q x)
+answer t s list (chain u q) = judged t s list (chainOn (given t s list) u q)

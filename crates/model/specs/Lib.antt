@@ -1,0 +1,12 @@
+pub mod Lists
+pub mod Limits
+pub mod Records
+pub mod Layout
+pub mod Conditions
+pub mod Left
+pub mod Sound
+pub mod Effective
+pub mod Chain
+pub mod Outcome
+pub mod Calls
+pub mod Withdrawals
