@@ -9,12 +9,12 @@ use lib.ListN.{length, replicate}
 use Rattle.model.specs.Lists.{all, filledTo}
 use Rattle.model.specs.Records.{Tables}
 use Rattle.model.specs.Layout.{policyOf, decode, encode}
-use Rattle.model.specs.Conditions.{Condition, meant, active, stands, holds, satisfied, supported, rolesAsked, restsOn}
+use Rattle.model.specs.Conditions.{Condition, meant, active, someStands, holds, satisfied, supported, rolesAsked, restsOn}
 use Rattle.model.specs.Left.{left}
-use Rattle.model.specs.Sound.{conditionFits, ruleFits, kindFits, rightFits, soundPolicy, rowSound, certificateSound, wellFormed, soundRecords, sound}
+use Rattle.model.specs.Sound.{conditionFits, ruleClauses, kindClauses, rightClauses, policyClauses, rowClauses, certificateClauses, formClauses, soundRecords, sound}
 use Rattle.model.specs.Effective.{direct, effectively}
-use Rattle.model.specs.Outcome.{Outcome, decided, judged}
-use Rattle.model.specs.Calls.{Call, fresh, activate, appoint, revoke, withdraw, environment, logout, invoke, effective, chain, settled, activateOn, appointOn, revokeOn, withdrawOn, environmentOn, logoutOn, allowed, invokeOn, effectiveOn, chainOn, freshOn, answer}
+use Rattle.model.specs.Outcome.{Outcome, judgedFirst, decided}
+use Rattle.model.specs.Calls.{Call, fresh, activate, appoint, revoke, withdraw, environment, logout, invoke, effective, chain, settled, activateOn, appointOn, revokeOn, withdrawOn, environmentOn, logoutOn, allowed, invokeOn, effectiveOn, chainOn, freshOn, courseOf, answer}
 
 -- a call, the code and the second number that are wanted of it
 record Step : Type 0 where
@@ -39,8 +39,8 @@ goes t s (x ∷ xs) =
     let later = goes t (o .state) xs in
     eqb (o .code) (x .code) && (eqb (o .second) (x .second) && later)
 
-abbrev right : Session → Bool
-right x = goes (x .tables) (x .state) (x .steps)
+abbrev goesRight : Session → Bool
+goesRight x = goes (x .tables) (x .state) (x .steps)
 
 -- rows as the program's records give them: n is the number of conditions, s the number of prerequisites
 abbrev rule : ℕ → ℕ → List ℕ → List ℕ
@@ -189,6 +189,6 @@ table =
     ∷ malformed-and-unsound
     ∷ []
 
-cases : all (all right) table ≡ true
-unfolding table worked last-user outlives wrong-length last-row full-and-unsatisfied two-appointers false-twice own-target malformed-and-unsound policyOf decode encode meant active stands holds satisfied supported rolesAsked restsOn left conditionFits ruleFits kindFits rightFits soundPolicy rowSound certificateSound wellFormed soundRecords sound direct effectively decided judged settled activateOn appointOn revokeOn withdrawOn environmentOn logoutOn allowed invokeOn effectiveOn chainOn freshOn answer
+cases : all (all goesRight) table ≡ true
+unfolding table worked last-user outlives wrong-length last-row full-and-unsatisfied two-appointers false-twice own-target malformed-and-unsound policyOf decode encode meant active someStands holds satisfied supported rolesAsked restsOn left conditionFits ruleClauses kindClauses rightClauses policyClauses rowClauses certificateClauses formClauses soundRecords sound direct effectively judgedFirst decided settled activateOn appointOn revokeOn withdrawOn environmentOn logoutOn allowed invokeOn effectiveOn chainOn freshOn courseOf answer
 cases = refl

@@ -3,16 +3,16 @@ use Prim.Native.Nat.{ℕ, suc, _-_}
 use mathlib.Core.Bool.{Bool, true, false, not, _&&_, cond}
 use mathlib.Core.List.{List, [], _∷_, _++_}
 use lib.Dec.{eqb, ltb, leb}
-use lib.ListN.{length, set, replicate}
-use Rattle.model.specs.Lists.{every, any, without, firstPlace, filledTo}
-use Rattle.model.specs.Limits.{users, roles, privileges, facts, mostRows, mostCertificates, stateSize, listSize, accepted, unsoundState, outOfRange, alreadyActive, noRuleSatisfied, tableFull, notInAppointerRole, standsAlready, noSuchCertificate, mayNotRevoke, writtenTwice, notActive}
-use Rattle.model.specs.Records.{Tables, Policy, State, World, worldOf, withRows}
+use lib.ListN.{length, replicate}
+use Rattle.model.specs.Lists.{every, any, without, firstPlace, isBit, filledTo}
+use Rattle.model.specs.Limits.{users, roles, privileges, facts, mostRows, mostCertificates, stateSize, listSize, unsoundState, outOfRange, alreadyActive, noRuleSatisfied, tableFull, notInAppointerRole, standsAlready, noSuchCertificate, mayNotRevoke, writtenTwice, notActive}
+use Rattle.model.specs.Records.{Tables, Policy, State, World, worldOf, withRows, withCertificates, withFact}
 use Rattle.model.specs.Conditions.{kindNumbered, active, satisfied, supported}
 use Rattle.model.specs.Left.{left}
 use Rattle.model.specs.Sound.{sameCertificate}
 use Rattle.model.specs.Effective.{direct, effectively}
 use Rattle.model.specs.Chain.{written, someTwice}
-use Rattle.model.specs.Outcome.{Outcome, Refusal, _⇒_, firstCode, decided, Effect, Course, Given, given, judged}
+use Rattle.model.specs.Outcome.{Outcome, Refusal, _⇒_, firstCode, Effect, Course, judgedFirst, decided, Given, given}
 use Rattle.model.specs.declared.Kind.{Kind}
 use Rattle.model.specs.declared.Row.{Row}
 use Rattle.model.specs.declared.Certificate.{Certificate}
@@ -30,8 +30,8 @@ pub data Call : Type 0 where
   chain : (user role : ℕ) → Call
 
 -- 3: "an argument out of range, a kind without a row, a chain list not of 256"
-abbrev pub unless : List Bool → Refusal
-unless inRange = not (every inRange) ⇒ outOfRange
+abbrev pub outOfRangeUnless : List Bool → Refusal
+outOfRangeUnless inRange = not (every inRange) ⇒ outOfRange
 
 abbrev pub isUser : ℕ → Bool
 isUser u = ltb u users
@@ -45,7 +45,8 @@ isPrivilege x = ltb x privileges
 abbrev pub hasRow : Policy → ℕ → Bool
 hasRow p k = ltb k (length (p .kinds))
 
--- the rows whose membership conditions hold no more fall, and "the second number is the rows lost"
+-- "After revoke, withdraw and environment, unsupported rows fall: the rows left are the largest set .." `left` computes it; that on
+-- a sound state it is `Largest` is a law. "The second number is the rows lost; for logout too."
 unfoldable pub settled : Given → State → Effect
 settled g t =
     let rest = left (supported (worldOf (g .policy) t)) (t .rows) in
@@ -57,8 +58,8 @@ told g so = record { second = cond so 1 0; state = g .state; list = g .list }
 
 -- "Activate (user, role): takes the lowest-numbered rule for the role whose conditions all hold, appends the row, second = the
 -- rule."
-abbrev pub isSatisfied : Policy → State → ℕ → ℕ → Bool
-isSatisfied p t u q = any (satisfied (worldOf p t) (t .rows) u q) (p .rules)
+abbrev pub someRuleSatisfied : Policy → State → ℕ → ℕ → Bool
+someRuleSatisfied p t u q = any (satisfied (worldOf p t) (t .rows) u q) (p .rules)
 
 abbrev pub lowestRule : Policy → State → ℕ → ℕ → ℕ
 lowestRule p t u q = firstPlace (satisfied (worldOf p t) (t .rows) u q) (p .rules)
@@ -67,9 +68,9 @@ unfoldable pub activateOn : Given → ℕ → ℕ → Course
 activateOn g u q =
     record {
       refusals =
-          unless (isUser u ∷ isRole q ∷ [])
+          outOfRangeUnless (isUser u ∷ isRole q ∷ [])
           ∷ (active (g .state .rows) u q ⇒ alreadyActive)
-          ∷ (not (isSatisfied (g .policy) (g .state) u q) ⇒ noRuleSatisfied)
+          ∷ (not (someRuleSatisfied (g .policy) (g .state) u q) ⇒ noRuleSatisfied)
           ∷ (leb mostRows (length (g .state .rows)) ⇒ tableFull)
           ∷ [];
       effect =
@@ -77,25 +78,22 @@ activateOn g u q =
           record { second = rule; state = withRows (g .state) (g .state .rows ++ (record { user = u; role = q; rule = rule } ∷ [])); list = g .list };
     }
 
+abbrev pub stands : State → Certificate → Bool
+stands t c = any (sameCertificate c) (t .certificates)
+
 -- "a removed row closes its gap"
-abbrev pub isStanding : State → Certificate → Bool
-isStanding t c = any (sameCertificate c) (t .certificates)
-
-abbrev pub withCertificates : State → List Certificate → State
-withCertificates t certificates = record { facts = t .facts; rows = t .rows; certificates = certificates }
-
 abbrev pub withoutCertificate : State → Certificate → State
 withoutCertificate t c = withCertificates t (without (sameCertificate c) (t .certificates))
 
 -- "Appoint (appointer, appointee, kind): the appointer must be active in the kind's appointer role. Second 0. Appointing oneself
 -- is allowed."
-unfoldable pub appointOn : Given → ℕ → Certificate → Course
-appointOn g appointer c =
+unfoldable pub appointOn : Given → Certificate → Course
+appointOn g c =
     record {
       refusals =
-          unless (isUser appointer ∷ isUser (c .appointee) ∷ hasRow (g .policy) (c .kind) ∷ [])
-          ∷ (not (active (g .state .rows) appointer (kindNumbered (g .policy) (c .kind) .appointer)) ⇒ notInAppointerRole)
-          ∷ (isStanding (g .state) c ⇒ standsAlready)
+          outOfRangeUnless (isUser (c .appointer) ∷ isUser (c .appointee) ∷ hasRow (g .policy) (c .kind) ∷ [])
+          ∷ (not (active (g .state .rows) (c .appointer) (kindNumbered (g .policy) (c .kind) .appointer)) ⇒ notInAppointerRole)
+          ∷ (stands (g .state) c ⇒ standsAlready)
           ∷ (leb mostCertificates (length (g .state .certificates)) ⇒ tableFull)
           ∷ [];
       effect = record { second = 0; state = withCertificates (g .state) (g .state .certificates ++ (c ∷ [])); list = g .list };
@@ -110,8 +108,8 @@ unfoldable pub revokeOn : Given → ℕ → Certificate → Course
 revokeOn g caller c =
     record {
       refusals =
-          unless (isUser caller ∷ isUser (c .appointee) ∷ hasRow (g .policy) (c .kind) ∷ isUser (c .appointer) ∷ [])
-          ∷ (not (isStanding (g .state) c) ⇒ noSuchCertificate)
+          outOfRangeUnless (isUser caller ∷ isUser (c .appointee) ∷ hasRow (g .policy) (c .kind) ∷ isUser (c .appointer) ∷ [])
+          ∷ (not (stands (g .state) c) ⇒ noSuchCertificate)
           ∷ (not (mayRevoke (g .state .rows) (kindNumbered (g .policy) (c .kind)) caller (c .appointer)) ⇒ mayNotRevoke)
           ∷ [];
       effect = settled g (withoutCertificate (g .state) c);
@@ -122,20 +120,17 @@ unfoldable pub withdrawOn : Given → Certificate → Course
 withdrawOn g c =
     record {
       refusals =
-          unless (isUser (c .appointee) ∷ hasRow (g .policy) (c .kind) ∷ isUser (c .appointer) ∷ [])
-          ∷ (not (isStanding (g .state) c) ⇒ noSuchCertificate)
+          outOfRangeUnless (isUser (c .appointee) ∷ hasRow (g .policy) (c .kind) ∷ isUser (c .appointer) ∷ [])
+          ∷ (not (stands (g .state) c) ⇒ noSuchCertificate)
           ∷ [];
       effect = settled g (withoutCertificate (g .state) c);
     }
 
 -- "Environment (fact, value 0 or 1)."
-abbrev pub withFact : State → ℕ → ℕ → State
-withFact t f value = record { facts = set (t .facts) f value; rows = t .rows; certificates = t .certificates }
-
 unfoldable pub environmentOn : Given → ℕ → ℕ → Course
 environmentOn g f value =
     record {
-      refusals = unless (ltb f facts ∷ ltb value 2 ∷ []) ∷ [];
+      refusals = outOfRangeUnless (ltb f facts ∷ isBit value ∷ []) ∷ [];
       effect = settled g (withFact (g .state) f value);
     }
 
@@ -146,7 +141,7 @@ ofUser u r = eqb (r .user) u
 unfoldable pub logoutOn : Given → ℕ → Course
 logoutOn g u =
     record {
-      refusals = unless (isUser u ∷ []) ∷ [];
+      refusals = outOfRangeUnless (isUser u ∷ []) ∷ [];
       effect =
           let rest = without (ofUser u) (g .state .rows) in
           record { second = length (g .state .rows) - length rest; state = withRows (g .state) rest; list = g .list };
@@ -159,7 +154,7 @@ allowed p rows u x = any (λ (r : Row). eqb (r .user) u && direct p (r .role) x)
 unfoldable pub invokeOn : Given → ℕ → ℕ → Course
 invokeOn g u x =
     record {
-      refusals = unless (isUser u ∷ isPrivilege x ∷ []) ∷ [];
+      refusals = outOfRangeUnless (isUser u ∷ isPrivilege x ∷ []) ∷ [];
       effect = told g (allowed (g .policy) (g .state .rows) u x);
     }
 
@@ -167,18 +162,18 @@ invokeOn g u x =
 unfoldable pub effectiveOn : Given → ℕ → ℕ → ℕ → Course
 effectiveOn g u q x =
     record {
-      refusals = unless (isUser u ∷ isRole q ∷ isPrivilege x ∷ []) ∷ (not (active (g .state .rows) u q) ⇒ notActive) ∷ [];
+      refusals = outOfRangeUnless (isUser u ∷ isRole q ∷ isPrivilege x ∷ []) ∷ (not (active (g .state .rows) u q) ⇒ notActive) ∷ [];
       effect = told g (effectively (g .policy) (g .state .rows) u q x);
     }
 
 -- "Chain (user, role, a lent list of 256 numbers): .. The rest of the list is zero. The second number, from 1 to 256, is the
--- number of roles written." A walk of one role more than there are would have one twice
+-- number of roles written." 257 roles below 256 cannot all differ, so a walk that is cut off here has a role twice
 unfoldable pub chainOn : Given → ℕ → ℕ → Course
 chainOn g u q =
     let walk = written (g .policy) (g .state .rows) u (suc roles) q in
     record {
       refusals =
-          unless (isUser u ∷ isRole q ∷ eqb (length (g .list)) listSize ∷ [])
+          outOfRangeUnless (isUser u ∷ isRole q ∷ eqb (length (g .list)) listSize ∷ [])
           ∷ (not (active (g .state .rows) u q) ⇒ notActive)
           ∷ (someTwice walk ⇒ writtenTwice)
           ∷ [];
@@ -186,20 +181,29 @@ chainOn g u q =
     }
 
 -- "Fresh: writes all zeros; second 0. Refuses 2 only for a wrong length."
-unfoldable pub freshOn : List ℕ → List ℕ → Outcome
-freshOn s list =
-    decided (firstCode ((not (eqb (length s) stateSize) ⇒ unsoundState) ∷ [])) s list
-    (record { code = accepted; second = 0; state = replicate stateSize 0; list = list })
+abbrev pub nothing : State
+nothing = record { facts = replicate facts 0; rows = []; certificates = [] }
 
--- each call, for any tables, any state, any list and any numbers
+unfoldable pub freshOn : List ℕ → List ℕ → Course
+freshOn s list =
+    record {
+      refusals = (not (eqb (length s) stateSize) ⇒ unsoundState) ∷ [];
+      effect = record { second = 0; state = nothing; list = list };
+    }
+
+-- each call's course: fresh judges nothing but the length, and every other call is judged first
+unfoldable pub courseOf : Tables → List ℕ → List ℕ → Call → Course
+courseOf t s list fresh = freshOn s list
+courseOf t s list (activate u q) = judgedFirst t s (activateOn (given t s list) u q)
+courseOf t s list (appoint appointer appointee k) = judgedFirst t s (appointOn (given t s list) (record { appointee = appointee; kind = k; appointer = appointer }))
+courseOf t s list (revoke caller appointee k appointer) = judgedFirst t s (revokeOn (given t s list) caller (record { appointee = appointee; kind = k; appointer = appointer }))
+courseOf t s list (withdraw appointee k appointer) = judgedFirst t s (withdrawOn (given t s list) (record { appointee = appointee; kind = k; appointer = appointer }))
+courseOf t s list (environment f value) = judgedFirst t s (environmentOn (given t s list) f value)
+courseOf t s list (logout u) = judgedFirst t s (logoutOn (given t s list) u)
+courseOf t s list (invoke u x) = judgedFirst t s (invokeOn (given t s list) u x)
+courseOf t s list (effective u q x) = judgedFirst t s (effectiveOn (given t s list) u q x)
+courseOf t s list (chain u q) = judgedFirst t s (chainOn (given t s list) u q)
+
+-- what a call comes to, for any tables, any state, any list and any numbers
 unfoldable pub answer : Tables → List ℕ → List ℕ → Call → Outcome
-answer t s list fresh = freshOn s list
-answer t s list (activate u q) = judged t s list (activateOn (given t s list) u q)
-answer t s list (appoint appointer appointee k) = judged t s list (appointOn (given t s list) appointer (record { appointee = appointee; kind = k; appointer = appointer }))
-answer t s list (revoke caller appointee k appointer) = judged t s list (revokeOn (given t s list) caller (record { appointee = appointee; kind = k; appointer = appointer }))
-answer t s list (withdraw appointee k appointer) = judged t s list (withdrawOn (given t s list) (record { appointee = appointee; kind = k; appointer = appointer }))
-answer t s list (environment f value) = judged t s list (environmentOn (given t s list) f value)
-answer t s list (logout u) = judged t s list (logoutOn (given t s list) u)
-answer t s list (invoke u x) = judged t s list (invokeOn (given t s list) u x)
-answer t s list (effective u q x) = judged t s list (effectiveOn (given t s list) u q x)
-answer t s list (chain u q) = judged t s list (chainOn (given t s list) u q)
+answer t s list c = let course = courseOf t s list c in decided (firstCode (course .refusals)) s list (course .effect)

@@ -3,8 +3,9 @@ use Prim.Native.Nat.{ℕ, _-_}
 use mathlib.Core.Bool.{Bool, true, false, _&&_, cond}
 use mathlib.Core.List.{List, [], _∷_}
 use lib.Dec.{eqb, ltb}
-use lib.ListN.{getD, take}
+use lib.ListN.{getD, take, replicate}
 use Rattle.model.specs.Lists.{any, all, joined}
+use Rattle.model.specs.Limits.{mostConditions, mostPrerequisites}
 use Rattle.model.specs.Records.{Policy, World}
 use Rattle.model.specs.declared.Rule.{Rule}
 use Rattle.model.specs.declared.Kind.{Kind}
@@ -22,12 +23,12 @@ pub data Condition : Type 0 where
 unfoldable pub meant : ℕ → Condition
 meant c = cond (ltb c 256) (role c) (cond (ltb c 384) (kind (c - 256)) (cond (ltb c 448) (fact (c - 384)) malformed))
 
--- the rule of a number, and the kind of a number; where the table has no such row, one that asks nothing
+-- the rule of a number, and the kind of a number; where the table has no such row, a row of zeros, which asks nothing
 abbrev pub ruleNumbered : Policy → ℕ → Rule
-ruleNumbered p i = getD (p .rules) i (record { target = 0; n = 0; m = 0; conditions = [] })
+ruleNumbered p i = getD (p .rules) i (record { target = 0; n = 0; m = 0; conditions = replicate mostConditions 0 })
 
 abbrev pub kindNumbered : Policy → ℕ → Kind
-kindNumbered p k = getD (p .kinds) k (record { appointer = 0; mode = 0; s = 0; prerequisites = [] })
+kindNumbered p k = getD (p .kinds) k (record { appointer = 0; mode = 0; s = 0; prerequisites = replicate mostPrerequisites 0 })
 
 -- definition 4: the activating conditions are the n of the rule
 abbrev pub activating : Rule → List ℕ
@@ -50,14 +51,14 @@ unfoldable pub active : List Row → ℕ → ℕ → Bool
 active rows u q = any (isRow u q) rows
 
 -- "some certificate of that kind stands for the user"
-unfoldable pub stands : List Certificate → ℕ → ℕ → Bool
-stands certificates u k = any (λ (c : Certificate). eqb (c .appointee) u && eqb (c .kind) k) certificates
+unfoldable pub someStands : List Certificate → ℕ → ℕ → Bool
+someStands certificates u k = any (λ (c : Certificate). eqb (c .appointee) u && eqb (c .kind) k) certificates
 
 -- definition 6, as 01 states it: "a role, if the user is active in it; a kind, if some certificate of that kind stands for the
 -- user and the user is active in all the kind's prerequisite roles; a fact, if it is 1."
 unfoldable pub holds : World → List Row → ℕ → Condition → Bool
 holds w rows u (role q) = active rows u q
-holds w rows u (kind k) = stands (w .certificates) u k && all (active rows u) (prerequisiteRoles (kindNumbered (w .policy) k))
+holds w rows u (kind k) = someStands (w .certificates) u k && all (active rows u) (prerequisiteRoles (kindNumbered (w .policy) k))
 holds w rows u (fact f) = eqb (getD (w .facts) f 0) 1
 holds w rows u malformed = false
 
@@ -69,7 +70,7 @@ allHold w rows u conditions = all (λ (c : ℕ). holds w rows u (meant c)) condi
 unfoldable pub satisfied : World → List Row → ℕ → ℕ → Rule → Bool
 satisfied w rows u q r = eqb (r .target) q && allHold w rows u (activating r)
 
--- definition 9, turned round: the row's membership conditions, "of the rule each was granted under", hold in these rows
+-- definition 9, turned round: the membership conditions of the rule under which the row was granted hold in these rows
 unfoldable pub supported : World → List Row → Row → Bool
 supported w rows r = allHold w rows (r .user) (membership (ruleNumbered (w .policy) (r .rule)))
 

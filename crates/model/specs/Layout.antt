@@ -41,16 +41,16 @@ policyOf t =
 
 -- "64 facts ..; a count up to 256 and 256 active rows ..; a count up to 256 and 256 certificate rows"
 abbrev pub rowCountAt : ℕ
-rowCountAt = 64
+rowCountAt = facts
 
 abbrev pub rowsAt : ℕ
-rowsAt = 65
+rowsAt = rowCountAt + 1
 
 abbrev pub certificateCountAt : ℕ
-certificateCountAt = 833
+certificateCountAt = rowsAt + mostRows * rowWidth
 
 abbrev pub certificatesAt : ℕ
-certificatesAt = 834
+certificatesAt = certificateCountAt + 1
 
 abbrev pub rowCount : List ℕ → ℕ
 rowCount s = number s rowCountAt

@@ -1,8 +1,9 @@
 -- The few words about lists in which the other definitions are written. Each computes; none knows what it is used for.
+-- What a `let` names is computed only where it is asked for: so a search ends at its first find.
 use Prim.Native.Nat.{ℕ, zero, suc, _+_, _-_}
 use mathlib.Core.Bool.{Bool, true, false, not, _&&_, _||_, cond}
 use mathlib.Core.List.{List, [], _∷_, _++_}
-use lib.Dec.{eqb}
+use lib.Dec.{eqb, leb}
 use lib.ListN.{length, take, drop, replicate}
 
 -- each of the clauses is true
@@ -31,6 +32,10 @@ module _ {A : Type 0} where
   without test [] = []
   without test (x ∷ xs) = cond (test x) (without test xs) (x ∷ without test xs)
 
+  -- the elements that pass the test, in their order
+  abbrev pub those : (A → Bool) → List A → List A
+  those test xs = without (λ (x : A). not (test x)) xs
+
   -- how many elements stand before the first that passes: its place, from 0
   abbrev pub firstPlace : (A → Bool) → List A → ℕ
   firstPlace test [] = 0
@@ -45,6 +50,10 @@ module _ {A B : Type 0} where
 -- the number is zero
 abbrev pub isZero : ℕ → Bool
 isZero n = eqb n 0
+
+-- the number is 0 or 1
+abbrev pub isBit : ℕ → Bool
+isBit n = leb n 1
 
 -- the number stands in the list
 abbrev pub among : List ℕ → ℕ → Bool

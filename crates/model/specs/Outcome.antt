@@ -1,5 +1,6 @@
 -- What a call comes to, and how its refusals are chosen. "Each answers a code and a second number. Code 0 is acceptance."
 use Prim.Native.Nat.{ℕ, zero, suc}
+use mathlib.Core.Path.{_≡_}
 use mathlib.Core.Bool.{Bool, not, cond}
 use mathlib.Core.List.{List, [], _∷_}
 use Rattle.model.specs.Limits.{accepted, malformedPolicy, unsoundState}
@@ -28,21 +29,25 @@ abbrev pub firstCode : List Refusal → ℕ
 firstCode [] = accepted
 firstCode (r ∷ rs) = let later = firstCode rs in cond (r .applies) (r .code) later
 
--- a refusal has zero as its second number and leaves the state and the list as they were
-unfoldable pub decided : ℕ → List ℕ → List ℕ → Outcome → Outcome
-decided zero state list done = done
-decided (suc n) state list done = record { code = suc n; second = 0; state = state; list = list }
-
 -- what a call does where none of its refusals applies
 pub record Effect : Type 0 where
   pub second : ℕ
   pub state : State
   pub list : List ℕ
 
--- a call on sound tables: its refusals, in their order, and its effect
+-- a call's refusals, in their order, and its effect
 pub record Course : Type 0 where
   pub refusals : List Refusal
   pub effect : Effect
+
+-- "1, 2, 3 come first": policy and state are judged before anything of the call
+unfoldable pub judgedFirst : Tables → List ℕ → Course → Course
+judgedFirst t s c = record { refusals = (not (soundPolicy t) ⇒ malformedPolicy) ∷ (not (sound (policyOf t) s) ⇒ unsoundState) ∷ c .refusals; effect = c .effect }
+
+-- accepted, the effect; refused, zero as the second number, and the state and the list as they were
+unfoldable pub decided : ℕ → List ℕ → List ℕ → Effect → Outcome
+decided zero state list e = record { code = accepted; second = e .second; state = encode (e .state); list = e .list }
+decided (suc n) state list e = record { code = suc n; second = 0; state = state; list = list }
 
 -- what is lent to a call, read
 pub record Given : Type 0 where
@@ -53,8 +58,9 @@ pub record Given : Type 0 where
 abbrev pub given : Tables → List ℕ → List ℕ → Given
 given t s list = record { policy = policyOf t; state = decode s; list = list }
 
--- "1, 2, 3 come first": policy and state are judged, and then the call takes its course
-unfoldable pub judged : Tables → List ℕ → List ℕ → Course → Outcome
-judged t s list c =
-    decided (firstCode ((not (soundPolicy t) ⇒ malformedPolicy) ∷ (not (sound (policyOf t) s) ⇒ unsoundState) ∷ c .refusals)) s list
-    (record { code = accepted; second = c .effect .second; state = encode (c .effect .state); list = c .effect .list })
+-- the promise of a public call: it answers and leaves what its outcome says, in every number
+pub record Keeps (o : Outcome) (code second : ℕ) (state list : List ℕ) : Type 0 where
+  pub code-kept : code ≡ o .code
+  pub second-kept : second ≡ o .second
+  pub state-kept : state ≡ o .state
+  pub list-kept : list ≡ o .list

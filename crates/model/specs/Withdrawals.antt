@@ -1,5 +1,5 @@
--- Lists of withdrawals: run one after the other, and taken away all at once. Demand 3's "facts set false, certificates withdrawn by
--- the system, users logged out".
+-- Lists of withdrawals (demand 3): run one after the other, and taken away all at once. A withdrawal sets a fact false, withdraws a
+-- certificate by the system, or logs a user out.
 use Prim.Native.Nat.{ℕ, suc, _+_}
 use mathlib.Core.Bool.{Bool, false, cond}
 use mathlib.Core.List.{List, [], _∷_}
@@ -31,7 +31,7 @@ pub record Ended : Type 0 where
   pub state : List ℕ
   pub lost : ℕ
 
--- "Run it in any order, passing over what is refused in its turn."
+-- one after the other; what is refused in its turn changes nothing and so is passed over
 abbrev pub run : Tables → List ℕ → List Withdrawal → Ended
 run t s [] = record { state = s; lost = 0 }
 run t s (w ∷ ws) =
@@ -69,6 +69,6 @@ takenAway ws t =
       certificates = without (λ (c : Certificate). any (namesCertificate c) ws) (t .certificates);
     }
 
--- "what remains when all of them are taken away at once"
+-- and then the rows that have lost their support fall
 unfoldable pub allAtOnce : Policy → State → List Withdrawal → State
 allAtOnce p t ws = let u = takenAway ws t in withRows u (left (supported (worldOf p u)) (u .rows))

@@ -36,7 +36,7 @@ pub struct Certificate {
     pub appointer: u16,
 }
 
-// "Each answers a code and a second number."
+// "Each answers a code and a second number." What they are is said of a call's outcome, in specs/Outcome.antt.
 pub struct Answer {
     pub code: u16,
     pub second: u16,
