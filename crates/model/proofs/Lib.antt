@@ -1,1 +1,14 @@
 pub mod Cases
+pub mod Tests
+pub mod Parts
+pub mod Sweep
+pub mod Support
+pub mod Numbers
+pub mod Refusals
+pub mod Kept
+pub mod Accepted
+pub mod Carried
+pub mod Grants
+pub mod Taken
+pub mod Orders
+pub mod Counts

@@ -10,3 +10,6 @@ pub mod Chain
 pub mod Outcome
 pub mod Calls
 pub mod Withdrawals
+pub mod Held
+pub mod Words
+pub mod Tally

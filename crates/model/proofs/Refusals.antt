@@ -6,14 +6,14 @@ use mathlib.Core.Logic.{_≢_, _⊎_, inl, inr}
 use mathlib.Core.List.{List, [], _∷_}
 use native.Mathlib.Omega.{arith}
 use lib.Dec.{T, eqb, eqb→eq}
 use Rattle.model.specs.Lists.{all, isZero}
 use Rattle.model.specs.Records.{Tables}
 use Rattle.model.specs.Layout.{policyOf, encode}
 use Rattle.model.specs.Sound.{soundPolicy, sound}
 use Rattle.model.specs.Outcome.{Outcome, Refusal, firstCode, Effect, Course, judgedFirst, decided, given}
 use Rattle.model.specs.Calls.{Call, fresh, activate, appoint, revoke, withdraw, environment, logout, invoke, effective, chain, activateOn, appointOn, revokeOn, withdrawOn, environmentOn, logoutOn, invokeOn, effectiveOn, chainOn, freshOn, courseOf, answer}
-use Rattle.laws.specs.First.{FirstApplies, none, here, later}
-use Rattle.laws.proofs.Tests.{and-left, and-right, of-true, of-false, is-false, refute}
+use Rattle.model.specs.Words.{FirstApplies, none, here, later, Unchanged}
+use Rattle.model.proofs.Tests.{and-left, and-right, of-true, of-false, is-false, refute}
 
 -- ── any list of refusals ──
 
@@ -73,12 +73,6 @@ decided-code (suc n) s list e = refl
 pub answer-code : (t : Tables) (s list : List ℕ) (c : Call) → answer t s list c .code ≡ firstCode (courseOf t s list c .refusals)
 unfolding answer
 answer-code t s list c = decided-code (firstCode (courseOf t s list c .refusals)) s list (courseOf t s list c .effect)
-
--- the state and the list are as they were, and the second number is zero
-pub record Unchanged (s list : List ℕ) (o : Outcome) : Type 0 where
-  pub second-zero : o .second ≡ 0
-  pub state-same : o .state ≡ s
-  pub list-same : o .list ≡ list
 
 decided-unchanged : (n : ℕ) (s list : List ℕ) (e : Effect) → n ≢ 0 → Unchanged s list (decided n s list e)
 unfolding decided

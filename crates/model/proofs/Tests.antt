@@ -41,6 +41,10 @@ not-of false f = tt
 pub not-not : (b : Bool) → T (not (not b)) → T b
 not-not true t = tt
 not-not false t = t
+
+pub not-not-of : (b : Bool) → T b → T (not (not b))
+not-not-of true t = tt
+not-not-of false t = t
 
 -- two tests that follow from each other are the same
 pub same-test : (a b : Bool) → (T a → T b) → (T b → T a) → a ≡ b

@@ -6,25 +6,26 @@ use mathlib.Core.List.{List, [], _∷_, _++_, List·Memᴰ, Sublistᴰ, Sublist�
 use native.Mathlib.Omega.{arith}
 use lib.Dec.{T, eqb, ltb, leb, eqb→eq, ltb→lt, nleb→lt}
 use lib.ListN.{length, getD}
 use Rattle.model.specs.Lists.{any, every, all, allOverEarlier, without, firstPlace, isBit}
 use Rattle.model.specs.Limits.{users, roles, facts, mostRows, mostCertificates}
 use Rattle.model.specs.Records.{Tables, Policy, State, World, worldOf, withRows, withCertificates, withFact}
 use Rattle.model.specs.Layout.{policyOf, decode, encode}
 use Rattle.model.specs.Conditions.{satisfied, supported, active, kindNumbered, ruleNumbered}
 use Rattle.model.specs.Left.{left, Supported, Largest}
 use Rattle.model.specs.Sound.{soundPolicy, sound, soundRecords, rowSound, sameCertificate, certificateClauses, certificateSound}
 use Rattle.model.specs.Outcome.{judgedFirst, given}
 use Rattle.model.specs.Calls.{Call, fresh, activate, appoint, revoke, withdraw, environment, logout, invoke, effective, chain, isUser, isRole, isPrivilege, hasRow, stands, ofUser, nothing, settled, withoutCertificate, someRuleSatisfied, lowestRule, activateOn, appointOn, revokeOn, withdrawOn, environmentOn, logoutOn, invokeOn, effectiveOn, chainOn, freshOn, courseOf, answer}
 use Rattle.model.specs.declared.Row.{Row}
 use Rattle.model.specs.declared.Certificate.{Certificate}
-use Rattle.laws.specs.Held.{held}
-use Rattle.laws.proofs.Tests.{not-not, and-left, each, of-each, first-place, earlier-of}
-use Rattle.laws.proofs.Parts.{part-front, part-member, part-length, without-part}
-use Rattle.laws.proofs.Sweep.{largest-whole, left-largest}
-use Rattle.laws.proofs.Support.{active-grows, supported-grows, row-supported, Serves, support, ordered}
-use Rattle.laws.proofs.Numbers.{Fits, SoundState, sound-decode, sound-encode, decode-encode}
-use Rattle.laws.proofs.Refusals.{Passed, Done, accepted-done, accepted-passed}
-use Rattle.laws.proofs.Kept.{sound-rows, row-added, granted-sound, certificate-added, fallen-sound, ByUser, users-gone, fact-fits}
+use Rattle.model.specs.Held.{held}
+use Rattle.model.specs.Words.{Fits, SoundState}
+use Rattle.model.proofs.Tests.{not-not, and-left, each, of-each, first-place, earlier-of}
+use Rattle.model.proofs.Parts.{part-front, part-member, part-length, without-part}
+use Rattle.model.proofs.Sweep.{largest-whole, left-largest}
+use Rattle.model.proofs.Support.{active-grows, supported-grows, row-supported, Serves, support, ordered}
+use Rattle.model.proofs.Numbers.{sound-decode, sound-encode, decode-encode}
+use Rattle.model.proofs.Refusals.{Passed, Done, accepted-done, accepted-passed}
+use Rattle.model.proofs.Kept.{sound-rows, row-added, granted-sound, certificate-added, fallen-sound, ByUser, users-gone, fact-fits}
 
 -- ── a sound state supports its rows, and taking from it leaves the largest part ──
 

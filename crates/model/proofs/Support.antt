@@ -7,16 +7,16 @@ use mathlib.Core.Logic.{_⊎_, inl, inr}
 use mathlib.Core.List.{List, [], _∷_, _++_, append-assoc, List·Memᴰ, List·Memᴰ·head, List·Memᴰ·tail, List·Memᴰ·cases-cons, List·Memᴰ·not-nil, List·Memᴰ·append-cases, List·Memᴰ·eq-of-singleton, Memᴰ·append-left, Memᴰ·append-right, Sublistᴰ}
 use lib.Dec.{T, eqb, ltb, eqb→eq, eqb-refl, ltb→lt}
 use lib.ListN.{length, getD}
 use Rattle.model.specs.Lists.{any, all, every, allOverEarlier, joined}
 use Rattle.model.specs.Records.{Policy, State, World, worldOf}
 use Rattle.model.specs.Conditions.{Condition, role, kind, fact, malformed, meant, ruleNumbered, kindNumbered, membership, prerequisiteRoles, isRow, active, someStands, holds, supported, rolesAsked, restsOn}
 use Rattle.model.specs.Sound.{rowClauses, rowSound}
 use Rattle.model.specs.Limits.{users, roles}
 use Rattle.model.specs.declared.Row.{Row}
 use Rattle.model.specs.declared.Certificate.{Certificate}
-use Rattle.laws.proofs.Tests.{and-left, and-right, and-both, refute, any-of, of-any, any-map, all-of, of-all, each, of-each, earlier-of}
-use Rattle.laws.proofs.Parts.{part-front, part-member}
-use Rattle.laws.proofs.Sweep.{Support, Ordered, Stricter}
+use Rattle.model.proofs.Tests.{and-left, and-right, and-both, refute, any-of, of-any, any-map, all-of, of-all, each, of-each, earlier-of}
+use Rattle.model.proofs.Parts.{part-front, part-member}
+use Rattle.model.proofs.Sweep.{Support, Ordered, Stricter}
 
 -- ── joined lists ──
 
@@ -119,8 +119,8 @@ supported-moves w₁ w₂ xs ys r same f g t =
         let h : T (holds w₁ xs (r .user) (meant c)) = all-of (λ (d : ℕ). holds w₁ xs (r .user) (meant d)) (ownConditions (w₁ .policy) r) t c m in
         of-holds w₂ ys (r .user) (meant c) (f (meant c) (holds-rest w₁ xs (r .user) (meant c) h))
         (λ q k.
-            let k₁ : List·Memᴰ q (rolesAsked (w₁ .policy) (meant c)) = subst⁻¹ (λ (p : Policy). List·Memᴰ q (rolesAsked p (meant c))) same k in
-            g q (rests c m q k₁) (holds-roles w₁ xs (r .user) (meant c) h q k₁))
+        let k₁ : List·Memᴰ q (rolesAsked (w₁ .policy) (meant c)) = subst⁻¹ (λ (p : Policy). List·Memᴰ q (rolesAsked p (meant c))) same k in
+        g q (rests c m q k₁) (holds-roles w₁ xs (r .user) (meant c) h q k₁))
 
 pub supported-grows : (w : World) (xs ys : List Row) (r : Row) → ((q : ℕ) → List·Memᴰ q (restsOn (w .policy) r) → T (active xs (r .user) q) → T (active ys (r .user) q)) → T (supported w xs r) → T (supported w ys r)
 supported-grows w xs ys r g t = supported-moves w w xs ys r refl (λ c h. h) g t

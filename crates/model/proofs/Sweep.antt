@@ -7,10 +7,10 @@ use mathlib.Core.Logic.{_⊎_, inl, inr}
 use mathlib.Core.List.{List, [], _∷_, _++_, append-assoc, append-nil, List·Memᴰ, List·Memᴰ·head, List·Memᴰ·tail, List·Memᴰ·not-nil, List·Memᴰ·append-cases, List·Memᴰ·eq-of-singleton}
 use mathlib.Core.List.{Sublistᴰ, Sublistᴰ·slnil, Sublistᴰ·cons, Sublistᴰ·cons-cons, Sublistᴰ·refl, Sublistᴰ·eq-nil, Sublistᴰ·cases-cons, Sublistᴰ·trans, Sublistᴰ·append}
 use lib.Dec.{T}
 use Rattle.model.specs.Lists.{allOverEarlier, without}
 use Rattle.model.specs.Left.{keep, sweep, left, Supported, Largest}
-use Rattle.laws.proofs.Tests.{of-true, and-left, and-right, and-both, earlier-last}
-use Rattle.laws.proofs.Parts.{part-antisym, part-member, part-front, without-part, without-member, part-without}
+use Rattle.model.proofs.Tests.{of-true, and-left, and-right, and-both, earlier-last}
+use Rattle.model.proofs.Parts.{part-antisym, part-member, part-front, without-part, without-member, part-without}
 
 module _ {A : Type 0} where
   -- ── largest parts, whatever the test ──

@@ -10,14 +10,15 @@ use native.Mathlib.Numerals.{add-one}
 use lib.Dec.{T, eqb, leb, eqb→eq, eqb-refl, leb→le, le→leb}
 use lib.ListN.{length, getD, take, drop, replicate, length-append, length-take, length-drop, length-replicate, take-append-drop}
 use lib.Seq.{take-at, drop-at, getD-at, split-at, drop-cons, drop-drop, take-add, take-all, length-take-le}
 use Rattle.model.specs.Lists.{every, all, allOverEarlier, joined, isZero, isBit, filledTo, rowsOf}
 use Rattle.model.specs.Limits.{facts, mostRows, rowWidth, mostCertificates, certificateWidth, stateSize}
 use Rattle.model.specs.Records.{Policy, State}
 use Rattle.model.specs.Layout.{number, rowFrom, certificateFrom, fromRow, fromCertificate, decode, encode, rowCount, certificateCount, factNumbers, rowNumbers, certificateNumbers, rowCountAt, rowsAt, certificateCountAt, certificatesAt}
 use Rattle.model.specs.Sound.{formClauses, wellFormed, soundRecords, sound}
 use Rattle.model.specs.declared.Row.{Row}
 use Rattle.model.specs.declared.Certificate.{Certificate}
-use Rattle.laws.proofs.Tests.{and-left, and-right, and-both, each, of-each}
+use Rattle.model.specs.Words.{Fits, SoundState}
+use Rattle.model.proofs.Tests.{and-left, and-right, and-both, each, of-each}
 
 -- ── rows of one width ──
 
@@ -134,13 +135,6 @@ certificate-forth (a ∷ b ∷ c ∷ d ∷ l) e = absurd (omega arith)
 
 -- ── the state ──
 
--- a value that has its place in 1,602 numbers
-pub record Fits (t : State) : Type 0 where
-  pub all-facts : length (t .facts) ≡ facts
-  pub bits : T (all isBit (t .facts))
-  pub room-for-rows : length (t .rows) ≤ mostRows
-  pub room-for-certificates : length (t .certificates) ≤ mostCertificates
-
 module _ (t : State) (f : Fits t) where
   rowsPart : List ℕ
   rowsPart = filledTo (mostRows * rowWidth) (joined fromRow (t .rows))
@@ -202,14 +196,25 @@ module _ (t : State) (f : Fits t) where
   pub encode-formed : T (wellFormed (encode t))
   unfolding formClauses rowsPart certificatesPart
   encode-formed =
-      of-each (formClauses (encode t))
-      (subst⁻¹ (λ (n : ℕ). T (eqb n stateSize)) length-encode tt,
-      (subst⁻¹ (λ (l : List ℕ). T (all isBit l)) facts-encoded (f .bits),
-      (subst⁻¹ (λ (n : ℕ). T (leb n mostRows)) row-count-encoded (le→leb (length (t .rows)) mostRows (f .room-for-rows)),
-      (subst⁻¹ (λ (n : ℕ). T (leb n mostCertificates)) certificate-count-encoded (le→leb (length (t .certificates)) mostCertificates (f .room-for-certificates)),
-      (zeros-after (rowCount (encode t) * rowWidth) (rowNumbers (encode t)) (mostRows * rowWidth) (joined fromRow (t .rows)) (ap (λ (n : ℕ). n * rowWidth) row-count-encoded ∙ sym rows-length) rows-encoded,
-      (zeros-after (certificateCount (encode t) * certificateWidth) (certificateNumbers (encode t)) (mostCertificates * certificateWidth) (joined fromCertificate (t .certificates)) (ap (λ (n : ℕ). n * certificateWidth) certificate-count-encoded ∙ sym certificates-length) certificates-encoded,
-      tt))))))
+      of-each (formClauses (encode t)) (
+        subst⁻¹ (λ (n : ℕ). T (eqb n stateSize)) length-encode tt,
+        (
+          subst⁻¹ (λ (l : List ℕ). T (all isBit l)) facts-encoded (f .bits),
+          (
+            subst⁻¹ (λ (n : ℕ). T (leb n mostRows)) row-count-encoded (le→leb (length (t .rows)) mostRows (f .room-for-rows)),
+            (
+              subst⁻¹ (λ (n : ℕ). T (leb n mostCertificates)) certificate-count-encoded (le→leb (length (t .certificates)) mostCertificates (f .room-for-certificates)),
+              (
+                zeros-after (rowCount (encode t) * rowWidth) (rowNumbers (encode t)) (mostRows * rowWidth) (joined fromRow (t .rows)) (ap (λ (n : ℕ). n * rowWidth) row-count-encoded ∙ sym rows-length) rows-encoded,
+                (
+                  zeros-after (certificateCount (encode t) * certificateWidth) (certificateNumbers (encode t)) (mostCertificates * certificateWidth) (joined fromCertificate (t .certificates)) (ap (λ (n : ℕ). n * certificateWidth) certificate-count-encoded ∙ sym certificates-length) certificates-encoded,
+                  tt,
+                ),
+              ),
+            ),
+          ),
+        ),
+      )
     where
       zeros-after : (k : ℕ) (l : List ℕ) (size : ℕ) (used : List ℕ) → k ≡ length used → l ≡ filledTo size used → T (all isZero (drop k l))
       zeros-after k l size used e q = subst⁻¹ (λ (r : List ℕ). T (all isZero r)) (ap (λ (r : List ℕ). drop k r) q ∙ drop-at used (replicate (size - length used) 0) k (sym e)) (only-zeros (size - length used))
@@ -266,10 +271,6 @@ module _ (s : List ℕ) (t : T (wellFormed s)) where
           ∙ filled-back (mostCertificates * certificateWidth) (certificateCount s * certificateWidth) (certificateNumbers s) (table-length certificatesAt (omega arith)) (omega (arith, formed-certificates)) (each (formClauses s) t .1 .1 .1 .1 .1 .0)
 
 -- ── soundness of a value ──
-
-pub record SoundState (p : Policy) (t : State) : Type 0 where
-  pub fits : Fits t
-  pub records : T (soundRecords p t)
 
 pub sound-formed : (p : Policy) (s : List ℕ) → T (sound p s) → T (wellFormed s)
 unfolding sound

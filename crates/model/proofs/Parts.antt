@@ -9,8 +9,8 @@ use mathlib.Core.Nat.{le-antisymm}
 use native.Mathlib.Omega.{arith}
 use lib.Dec.{T}
 use lib.ListN.{length}
 use Rattle.model.specs.Lists.{allOverEarlier, without}
-use Rattle.laws.proofs.Tests.{and-left, and-right, and-both, refute, is-false, decide, of-true, of-false}
+use Rattle.model.proofs.Tests.{and-left, and-right, and-both, refute, is-false, decide, of-true, of-false}
 
 module _ {A : Type 0} where
   pub part-antisym : (xs ys : List A) → Sublistᴰ xs ys → Sublistᴰ ys xs → xs ≡ ys
