@@ -24,11 +24,17 @@ unfoldable pub meant : ℕ → Condition
 meant c = cond (ltb c 256) (role c) (cond (ltb c 384) (kind (c - 256)) (cond (ltb c 448) (fact (c - 384)) malformed))
 
 -- the rule of a number, and the kind of a number; where the table has no such row, a row of zeros, which asks nothing
+abbrev pub noRule : Rule
+noRule = record { target = 0; n = 0; m = 0; conditions = replicate mostConditions 0 }
+
+abbrev pub noKind : Kind
+noKind = record { appointer = 0; mode = 0; s = 0; prerequisites = replicate mostPrerequisites 0 }
+
 abbrev pub ruleNumbered : Policy → ℕ → Rule
-ruleNumbered p i = getD (p .rules) i (record { target = 0; n = 0; m = 0; conditions = replicate mostConditions 0 })
+ruleNumbered p i = getD (p .rules) i noRule
 
 abbrev pub kindNumbered : Policy → ℕ → Kind
-kindNumbered p k = getD (p .kinds) k (record { appointer = 0; mode = 0; s = 0; prerequisites = replicate mostPrerequisites 0 })
+kindNumbered p k = getD (p .kinds) k noKind
 
 -- definition 4: the activating conditions are the n of the rule
 abbrev pub activating : Rule → List ℕ

@@ -1,0 +1,320 @@
+// Reading the lent tables, and whether a condition holds. Every index is bounded before it is used: lent tables hold any numbers.
+ghost use mathlib.Core.List.{[]};
+ghost use mathlib.Core.Path.{_≡_};
+ghost use Prim.Native.Nat.{_+_, _*_, _/_, _<_, _≤_, min};
+ghost use mathlib.Core.Bool.{_&&_};
+ghost use lib.Dec.{eqb};
+ghost use lib.ListN.{length, getD, take};
+ghost use Rattle.model.specs.Lists.{all};
+ghost use Rattle.model.specs.Limits.{stateSize, mostRows, mostCertificates, facts};
+ghost use Rattle.model.specs.Layout.{decode, policyOf};
+ghost use Rattle.model.specs.Conditions.{isRow, active, someStands, prerequisiteRoles, kindNumbered, ruleNumbered, holds, meant, allHold, supported, satisfied, kind as kindCondition, fact as factCondition};
+ghost use Rattle.table.specs.Entries.{ruleAt, kindAt, rightAt, rowAt, firstRows, certificateAt, without-rights, worldAt, Sized};
+use model::Certificate;
+use model::Kind;
+use model::Right;
+use model::Row;
+use model::Rule;
+
+const FACTS: usize = 64;
+
+const ROW_COUNT: usize = 64;
+
+const ROWS: usize = 65;
+
+const ROW_WIDTH: usize = 3;
+
+const CERTIFICATE_COUNT: usize = 833;
+
+const CERTIFICATES: usize = 834;
+
+const CERTIFICATE_WIDTH: usize = 3;
+
+const RULE_WIDTH: usize = 11;
+
+const KIND_WIDTH: usize = 7;
+
+const RIGHT_WIDTH: usize = 2;
+
+fn wide(x: u16) -> usize
+    ensures { λ r. ⌜ r ≡ x ⌝ }
+{
+    x as usize
+}
+
+fn least(a: usize, b: usize) -> usize
+    ensures { λ r. ⌜ r ≡ min a b ⌝ }
+{
+    if a < b { a } else { b }
+}
+
+// The rule of a number that has a row.
+pub fn rule_at(rules: &[u16], i: usize) -> Rule
+    requires { ⌜ i < length (now rules) / 11 ⌝ }
+    ensures { λ r. ⌜ r ≡ ruleAt (now (rules .entry)) i ⌝ }
+{
+    let b = i * RULE_WIDTH;
+    Rule {
+        target: rules[b],
+        n: rules[b + 1],
+        m: rules[b + 2],
+        conditions: [
+            rules[b + 3],
+            rules[b + 4],
+            rules[b + 5],
+            rules[b + 6],
+            rules[b + 7],
+            rules[b + 8],
+            rules[b + 9],
+            rules[b + 10],
+        ],
+    }
+}
+
+// The kind of a number that has a row.
+pub fn kind_at(kinds: &[u16], k: usize) -> Kind
+    requires { ⌜ k < length (now kinds) / 7 ⌝ }
+    ensures { λ r. ⌜ r ≡ kindAt (now (kinds .entry)) k ⌝ }
+{
+    let b = k * KIND_WIDTH;
+    Kind {
+        appointer: kinds[b],
+        mode: kinds[b + 1],
+        s: kinds[b + 2],
+        prerequisites: [kinds[b + 3], kinds[b + 4], kinds[b + 5], kinds[b + 6]],
+    }
+}
+
+// The right in a row that there is.
+pub fn right_at(rights: &[u16], i: usize) -> Right
+    requires { ⌜ i < length (now rights) / 2 ⌝ }
+    ensures { λ r. ⌜ r ≡ rightAt (now (rights .entry)) i ⌝ }
+{
+    let b = i * RIGHT_WIDTH;
+    Right {
+        role: rights[b],
+        privilege: rights[b + 1],
+    }
+}
+
+// Active row i, within the count or past it.
+pub fn row_at(state: &[u16], i: usize) -> Row
+    requires { ⌜ (length (now state) ≡ stateSize) × (i < mostRows) ⌝ }
+    ensures { λ r. ⌜ r ≡ rowAt (now (state .entry)) i ⌝ }
+{
+    let b = i * ROW_WIDTH + ROWS;
+    Row {
+        user: state[b],
+        role: state[b + 1],
+        rule: state[b + 2],
+    }
+}
+
+// Certificate i, within the count or past it.
+pub fn certificate_at(state: &[u16], i: usize) -> Certificate
+    requires { ⌜ (length (now state) ≡ stateSize) × (i < mostCertificates) ⌝ }
+    ensures { λ r. ⌜ r ≡ certificateAt (now (state .entry)) i ⌝ }
+{
+    let b = i * CERTIFICATE_WIDTH + CERTIFICATES;
+    Certificate {
+        appointee: state[b],
+        kind: state[b + 1],
+        appointer: state[b + 2],
+    }
+}
+
+// The rule of any number: where there is no row, one of zeros.
+pub fn rule_numbered(rules: &[u16], i: usize) -> Rule
+    ensures { λ r. ⌜ r ≡ ruleNumbered (policyOf (without-rights (now (rules .entry)) [])) i ⌝ }
+{
+    if i < rules.len() / RULE_WIDTH {
+        rule_at(rules, i)
+    } else {
+        Rule {
+            target: 0,
+            n: 0,
+            m: 0,
+            conditions: [0, 0, 0, 0, 0, 0, 0, 0],
+        }
+    }
+}
+
+// The kind of any number: where there is no row, one of zeros.
+pub fn kind_numbered(kinds: &[u16], k: usize) -> Kind
+    ensures { λ r. ⌜ r ≡ kindNumbered (policyOf (without-rights [] (now (kinds .entry)))) k ⌝ }
+{
+    if k < kinds.len() / KIND_WIDTH {
+        kind_at(kinds, k)
+    } else {
+        Kind {
+            appointer: 0,
+            mode: 0,
+            s: 0,
+            prerequisites: [0, 0, 0, 0],
+        }
+    }
+}
+
+// The row says that the user is active in the role.
+fn row_is(row: Row, user: u16, role: u16) -> bool
+    ensures { λ r. ⌜ r ≡ isRow user role row ⌝ }
+{
+    if row.user == user {
+        return row.role == role;
+    }
+    false
+}
+
+// The user is active in the role, in one of the first k rows.
+pub fn is_active(state: &[u16], k: usize, user: u16, role: u16) -> bool
+    requires { ⌜ (length (now state) ≡ stateSize) × (k ≤ mostRows) ⌝ }
+    ensures { λ r. ⌜ r ≡ active (firstRows (now (state .entry)) k) user role ⌝ }
+{
+    let mut j: usize = 0;
+    while j < k {
+        if row_is(row_at(state, j), user, role) {
+            return true;
+        }
+        j += 1;
+    }
+    false
+}
+
+// The certificate is of the kind, and the user's.
+fn certificate_is(certificate: Certificate, user: u16, kind: u16) -> bool
+    ensures { λ r. ⌜ r ≡ (eqb (certificate .appointee) user && eqb (certificate .kind) kind) ⌝ }
+{
+    if certificate.appointee == user {
+        return certificate.kind == kind;
+    }
+    false
+}
+
+// Some certificate of the kind stands for the user.
+pub fn some_stand(state: &[u16], user: u16, kind: u16) -> bool
+    requires { ⌜ Sized (now state) ⌝ }
+    ensures { λ r. ⌜ r ≡ someStands (decode (now (state .entry)) .certificates) user kind ⌝ }
+{
+    let n = wide(state[CERTIFICATE_COUNT]);
+    let mut j: usize = 0;
+    while j < n {
+        if certificate_is(certificate_at(state, j), user, kind) {
+            return true;
+        }
+        j += 1;
+    }
+    false
+}
+
+// The user is active, in the first k rows, in the first n of the roles.
+fn all_active(state: &[u16], k: usize, user: u16, roles: [u16; 4], n: usize) -> bool
+    requires { ⌜ (length (now state) ≡ stateSize) × (k ≤ mostRows) × (n ≤ 4) ⌝ }
+    ensures { λ r. ⌜ r ≡ all (active (firstRows (now (state .entry)) k) user) (take n roles) ⌝ }
+{
+    let mut j: usize = 0;
+    while j < n {
+        if !is_active(state, k, user, roles[j]) {
+            return false;
+        }
+        j += 1;
+    }
+    true
+}
+
+// A certificate of the kind stands for the user, who is active in the kind's prerequisite roles.
+fn kind_holds(kinds: &[u16], state: &[u16], k: usize, user: u16, kind: u16) -> bool
+    requires { ⌜ Sized (now state) × (k ≤ mostRows) ⌝ }
+    ensures { λ r. ⌜ r ≡ holds (worldAt [] (now (kinds .entry)) (now (state .entry))) (firstRows (now (state .entry)) k) user (kindCondition kind) ⌝ }
+{
+    if !some_stand(state, user, kind) {
+        return false;
+    }
+    let row = kind_numbered(kinds, wide(kind));
+    let roles = row.prerequisites;
+    let n = least(wide(row.s), 4);
+    all_active(state, k, user, roles, n)
+}
+
+// The fact is 1.
+fn fact_holds(kinds: &[u16], state: &[u16], k: usize, user: u16, fact: u16) -> bool
+    requires { ⌜ Sized (now state) ⌝ }
+    ensures { λ r. ⌜ r ≡ holds (worldAt [] (now (kinds .entry)) (now (state .entry))) (firstRows (now (state .entry)) k) user (factCondition fact) ⌝ }
+{
+    let at = wide(fact);
+    if at < FACTS {
+        return state[at] == 1;
+    }
+    false
+}
+
+// The condition holds for the user, over the first k rows.
+pub fn condition_holds(kinds: &[u16], state: &[u16], k: usize, user: u16, c: u16) -> bool
+    requires { ⌜ Sized (now state) × (k ≤ mostRows) ⌝ }
+    ensures { λ r. ⌜ r ≡ holds (worldAt [] (now (kinds .entry)) (now (state .entry))) (firstRows (now (state .entry)) k) user (meant c) ⌝ }
+{
+    if c < 256 {
+        return is_active(state, k, user, c);
+    }
+    if c < 384 {
+        return kind_holds(kinds, state, k, user, c - 256);
+    }
+    if c < 448 {
+        return fact_holds(kinds, state, k, user, c - 384);
+    }
+    false
+}
+
+// The first n of the conditions hold for the user, over the first k rows.
+pub fn all_conditions_hold(
+    kinds: &[u16],
+    state: &[u16],
+    k: usize,
+    user: u16,
+    conditions: [u16; 8],
+    n: usize,
+) -> bool
+    requires { ⌜ Sized (now state) × (k ≤ mostRows) × (n ≤ 8) ⌝ }
+    ensures { λ r. ⌜ r ≡ allHold (worldAt [] (now (kinds .entry)) (now (state .entry))) (firstRows (now (state .entry)) k) user (take n conditions) ⌝ }
+{
+    let mut j: usize = 0;
+    while j < n {
+        if !condition_holds(kinds, state, k, user, conditions[j]) {
+            return false;
+        }
+        j += 1;
+    }
+    true
+}
+
+// The membership conditions of the row's own rule hold, over the first k rows.
+pub fn row_supported(rules: &[u16], kinds: &[u16], state: &[u16], k: usize, row: Row) -> bool
+    requires { ⌜ Sized (now state) × (k ≤ mostRows) ⌝ }
+    ensures { λ r. ⌜ r ≡ supported (worldAt (now (rules .entry)) (now (kinds .entry)) (now (state .entry))) (firstRows (now (state .entry)) k) row ⌝ }
+{
+    let rule = rule_numbered(rules, wide(row.rule));
+    let conditions = rule.conditions;
+    let n = least(wide(rule.m), 8);
+    all_conditions_hold(kinds, state, k, row.user, conditions, n)
+}
+
+// Rule i is one for the role, and its conditions all hold for the user.
+pub fn rule_satisfied(
+    rules: &[u16],
+    kinds: &[u16],
+    state: &[u16],
+    user: u16,
+    role: u16,
+    i: usize,
+) -> bool
+    requires { ⌜ Sized (now state) × (i < length (now rules) / 11) ⌝ }
+    ensures { λ r. ⌜ r ≡ satisfied (worldAt (now (rules .entry)) (now (kinds .entry)) (now (state .entry))) (decode (now (state .entry)) .rows) user role (ruleAt (now (rules .entry)) i) ⌝ }
+{
+    let rule = rule_at(rules, i);
+    if rule.target != role {
+        return false;
+    }
+    let conditions = rule.conditions;
+    let n = least(wide(rule.n), 8);
+    let k = wide(state[ROW_COUNT]);
+    all_conditions_hold(kinds, state, k, user, conditions, n)
+}
