@@ -36,7 +36,8 @@ const KIND_WIDTH: usize = 7;
 
 const RIGHT_WIDTH: usize = 2;
 
-fn wide(x: u16) -> usize
+// A lent number as an index.
+pub fn wide(x: u16) -> usize
     ensures { λ r. ⌜ r ≡ x ⌝ }
 {
     x as usize

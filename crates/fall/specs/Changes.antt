@@ -1,0 +1,38 @@
+-- What a change of a state leaves, over values.
+use Prim.Native.Nat.{ℕ, _+_, _*_, _≤_, _<_}
+use mathlib.Core.Path.{_≡_}
+use mathlib.Core.Bool.{Bool, true, false, not}
+use mathlib.Core.List.{List}
+use lib.ListN.{length, getD}
+use Rattle.model.specs.Records.{Policy, State, World, worldOf, withRows}
+use Rattle.model.specs.Layout.{decode, encode, rowCountAt, rowsAt, rowCount}
+use Rattle.model.specs.Conditions.{supported}
+use Rattle.model.specs.Left.{left}
+use Rattle.model.specs.Limits.{rowWidth}
+use Rattle.model.specs.declared.Row.{Row}
+use Rattle.table.specs.Entries.{rowAt, firstRows}
+use Rattle.fall.specs.Writes.{Moved}
+
+-- where row i begins
+abbrev pub rowPlace : ℕ → ℕ
+rowPlace i = i * rowWidth + rowsAt
+
+-- row i was judged over the first w rows: it stands behind them if it stays, and nothing changes if not. `kept` rows are kept now
+pub record Judged (stays : Bool) (s s′ : List ℕ) (w i kept : ℕ) : Type 0 where
+  pub stood : stays ≡ true → Moved s s′ (rowPlace i) (rowPlace w) rowWidth × (kept ≡ w + 1)
+  pub fell : stays ≡ false → (s′ ≡ s) × (kept ≡ w)
+
+-- of n rows the first w are left, with the count set; `lost` is the rows lost
+pub record Closed (s s′ : List ℕ) (w n lost : ℕ) : Type 0 where
+  pub size : length s′ ≡ length s
+  pub count : rowCount s′ ≡ w
+  pub below : (k : ℕ) → k < rowCountAt → getD s′ k 0 ≡ getD s k 0
+  pub kept : (k : ℕ) → rowsAt ≤ k → k < rowPlace w → getD s′ k 0 ≡ getD s k 0
+  pub zeros : (k : ℕ) → rowPlace w ≤ k → k < rowPlace n → getD s′ k 0 ≡ 0
+  pub above : (k : ℕ) → rowPlace n ≤ k → getD s′ k 0 ≡ getD s k 0
+  pub lost-count : lost + w ≡ n
+
+-- the state with these rows and nothing else changed; `lost` is the rows lost
+pub record Left (s s′ : List ℕ) (rows : List Row) (lost : ℕ) : Type 0 where
+  pub state : s′ ≡ encode (withRows (decode s) rows)
+  pub count : lost + length rows ≡ length (decode s .rows)

@@ -1,0 +1,2 @@
+pub mod Writes
+pub mod Changes
