@@ -74,3 +74,13 @@ module _ (rules kinds s : List ℕ) (rows : List Row) (u : ℕ) where
       conditions-hold n (read .n) (read .conditions) r size least k
       ∙ ap (λ (b : Bool). b && allHold (worldAt rules kinds s) rows u (activating read)) (sym h)
       ∙ ap (λ (x : Rule). eqb (x .target) q && allHold (worldAt rules kinds s) rows u (activating x)) e
+
+-- ── rights are not read ──
+
+pub supported-same : (p₁ p₂ : Policy) (t : State) → p₁ .rules ≡ p₂ .rules → p₁ .kinds ≡ p₂ .kinds → supported (worldOf p₁ t) ≡ supported (worldOf p₂ t)
+unfolding supported
+supported-same p₁ p₂ t a b = λ i rows r. all (λ (c : ℕ). holds-same p₁ p₂ t b rows (r .user) (meant c) i) (membership (getD (a i) (r .rule) noRule))
+
+pub satisfied-same : (p₁ p₂ : Policy) (t : State) → p₁ .kinds ≡ p₂ .kinds → satisfied (worldOf p₁ t) ≡ satisfied (worldOf p₂ t)
+unfolding satisfied
+satisfied-same p₁ p₂ t b = λ i rows u q r. eqb (r .target) q && all (λ (c : ℕ). holds-same p₁ p₂ t b rows u (meant c) i) (activating r)

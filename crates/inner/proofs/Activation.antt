@@ -1,0 +1,80 @@
+-- Activate: each answer that the code gives is the model's.
+use Prim.Native.Nat.{ℕ, _≤_, _<_, _/_}
+use mathlib.Core.Path.{_≡_, refl, sym, ap, _∙_}
+use mathlib.Core.Bool.{Bool, true, false, not}
+use mathlib.Core.List.{List, [], _∷_, _++_}
+use native.Mathlib.Omega.{arith}
+use lib.Dec.{T, leb, lt→ltb, le→leb}
+use lib.ListN.{length}
+use borrow.Author.Tests.{le-ltb, lt-leb}
+use Rattle.model.specs.Lists.{any, firstPlace}
+use Rattle.model.specs.Records.{withRows, worldOf}
+use Rattle.model.specs.Layout.{policyOf, decode, encode, rowCount, ruleFrom}
+use Rattle.model.specs.Conditions.{active, satisfied}
+use Rattle.model.specs.Outcome.{judgedFirst, given}
+use Rattle.model.specs.Calls.{activate, isUser, isRole, someRuleSatisfied, lowestRule, activateOn, courseOf}
+use Rattle.model.specs.Words.{Sound, FirstApplies, none, here, later}
+use Rattle.model.specs.declared.Answer.{Answer}
+use Rattle.model.proofs.Tests.{of-true, of-false}
+use Rattle.table.specs.Entries.{worldAt, without-rights}
+use Rattle.table.proofs.Entries.{length-entries}
+use Rattle.table.proofs.Worlds.{satisfied-same}
+use Rattle.inner.specs.Lent.{lent, Answers}
+use Rattle.inner.proofs.First.{found-any, not-found}
+use Rattle.inner.proofs.Codes.{judged, refuses, accepts, out-of-range, in-range, found, row-length}
+
+module _ (rules kinds rights s : List ℕ) (h : Sound (lent rules kinds rights) s) (u q : ℕ) where
+  -- the code that the call's own refusals give is the answer's
+  own : {n : ℕ} → FirstApplies (activateOn (given (lent rules kinds rights) s []) u q .refusals) n → FirstApplies (courseOf (lent rules kinds rights) s [] (activate u q) .refusals) n
+  unfolding courseOf
+  own f = judged (lent rules kinds rights) s h (activateOn (given (lent rules kinds rights) s []) u q) f
+
+  refused : (r : Answer) (code : ℕ) → Prim.Native.Nat._<_ 0 code → (r .code ≡ code) × (r .second ≡ 0) → FirstApplies (activateOn (given (lent rules kinds rights) s []) u q .refusals) code → Answers (lent rules kinds rights) s (activate u q) r s
+  refused r code n a f = refuses (lent rules kinds rights) s (activate u q) r code (omega arith) a (own f)
+
+  pub no-user : (r : Answer) → (r .code ≡ 3) × (r .second ≡ 0) → 4096 ≤ u → Answers (lent rules kinds rights) s (activate u q) r s
+  unfolding activateOn
+  no-user r a l = refused r 3 (omega arith) a (here (out-of-range (isUser u ∷ isRole q ∷ []) 0 (le-ltb u 4096 l)))
+
+  pub no-role : (r : Answer) → (r .code ≡ 3) × (r .second ≡ 0) → 256 ≤ q → Answers (lent rules kinds rights) s (activate u q) r s
+  unfolding activateOn
+  no-role r a l = refused r 3 (omega arith) a (here (out-of-range (isUser u ∷ isRole q ∷ []) 1 (le-ltb q 256 l)))
+
+  module _ (a : u < 4096) (b : q < 256) where
+    range : T (not (not (Rattle.model.specs.Lists.every (isUser u ∷ isRole q ∷ []))))
+    range = in-range (isUser u ∷ isRole q ∷ []) (lt→ltb u 4096 a, (lt→ltb q 256 b, tt))
+
+    pub is-held : (r : Answer) → (r .code ≡ 4) × (r .second ≡ 0) → active (decode s .rows) u q ≡ true → Answers (lent rules kinds rights) s (activate u q) r s
+    unfolding activateOn
+    is-held r c e = refused r 4 (omega arith) c (later range (here (of-true (active (decode s .rows) u q) e)))
+
+    module _ (new : active (decode s .rows) u q ≡ false) (i : ℕ) (lowest : i ≡ firstPlace (satisfied (worldAt rules kinds s) (decode s .rows) u q) (policyOf (without-rights rules kinds) .rules)) where
+      rule-count : length (policyOf (lent rules kinds rights) .rules) ≡ length rules / 11
+      unfolding policyOf
+      rule-count = length-entries ruleFrom 11 rules (length rules / 11)
+
+      lowest-same : i ≡ lowestRule (policyOf (lent rules kinds rights)) (decode s) u q
+      unfolding policyOf
+      lowest-same = lowest ∙ (λ j. firstPlace (satisfied-same (policyOf (without-rights rules kinds)) (policyOf (lent rules kinds rights)) (decode s) refl j (decode s .rows) u q) (policyOf (lent rules kinds rights) .rules))
+
+      pub no-rule : (r : Answer) → (r .code ≡ 5) × (r .second ≡ 0) → length rules / 11 ≤ i → Answers (lent rules kinds rights) s (activate u q) r s
+      unfolding activateOn
+      no-rule r c l =
+          refused r 5 (omega arith) c
+          (later range (later (of-false (active (decode s .rows) u q) new) (here (of-false (someRuleSatisfied (policyOf (lent rules kinds rights)) (decode s) u q)
+          (not-found (satisfied (worldOf (policyOf (lent rules kinds rights)) (decode s)) (decode s .rows) u q) (policyOf (lent rules kinds rights) .rules) (omega (arith, rule-count, lowest-same)))))))
+
+      module _ (exists : i < length rules / 11) where
+        satisfied-now : someRuleSatisfied (policyOf (lent rules kinds rights)) (decode s) u q ≡ true
+        satisfied-now = found-any (satisfied (worldOf (policyOf (lent rules kinds rights)) (decode s)) (decode s .rows) u q) (policyOf (lent rules kinds rights) .rules) (omega (arith, rule-count, lowest-same))
+
+        pub no-room : (r : Answer) → (r .code ≡ 6) × (r .second ≡ 0) → 256 ≤ rowCount s → Answers (lent rules kinds rights) s (activate u q) r s
+        unfolding activateOn
+        no-room r c l = refused r 6 (omega arith) c (later range (later (of-false (active (decode s .rows) u q) new) (later (found _ satisfied-now) (here (le→leb 256 (length (decode s .rows)) (omega (arith, row-length s)))))))
+
+        pub granted : (r : Answer) (s′ : List ℕ) → rowCount s < 256 → r .code ≡ 0 → r .second ≡ i → s′ ≡ encode (withRows (decode s) (decode s .rows ++ (record { user = u; role = q; rule = i } ∷ []))) → Answers (lent rules kinds rights) s (activate u q) r s′
+        unfolding courseOf judgedFirst activateOn
+        granted r s′ l z e f =
+            accepts (lent rules kinds rights) s (activate u q) r s′ z
+            (own (later range (later (of-false (active (decode s .rows) u q) new) (later (found _ satisfied-now) (later (of-false (leb 256 (length (decode s .rows))) (lt-leb 256 (length (decode s .rows)) (omega (arith, row-length s)))) none)))))
+            (e ∙ lowest-same) (f ∙ ap (λ (n : ℕ). encode (withRows (decode s) (decode s .rows ++ (record { user = u; role = q; rule = n } ∷ [])))) lowest-same) refl

@@ -1,0 +1,6 @@
+pub mod First
+pub mod Codes
+pub mod Activation
+pub mod Falls
+pub mod Appointing
+pub mod Invoking

@@ -1,0 +1,152 @@
+use Prim.Native.Nat.{ℕ, suc, _/_}
+use mathlib.Core.Path.{_≡_, refl, sym, ap, _∙_}
+use mathlib.Core.Bool.{true, false}
+use mathlib.Core.List.{[], _∷_, _++_}
+use native.Mathlib.Omega.{arith}
+use lib.ListN.{length}
+use borrow.Author.Tests.{le-ltb, not-true, not-false}
+use Rattle.model.specs.Layout.{policyOf, decode, certificateCount}
+use Rattle.model.specs.Conditions.{kindNumbered, active}
+use Rattle.model.specs.Calls.{isUser, hasRow}
+use Rattle.model.specs.declared.Kind.{Kind}
+use Rattle.table.specs.Entries.{without-rights, firstRows}
+use Rattle.inner.specs.Lent.{lent}
+use Rattle.inner.proofs.Codes.{sound-form, sound-sized, out-of-range, active-now}
+use Rattle.inner.proofs.Falls.{no-kind}
+use Rattle.inner.proofs.Appointing.{appoint-out, appoint-not-in-role, appoint-stands, appoint-full, appoint-done}
+use borrow.Author.Needs.{needs}
+use Rattle.inner.proofs.appoint.Statement.{statement}
+use Rattle.inner.proofs.appoint.Tie as tie
+
+-- src/lib.rt:126:9
+refused-requires : tie.Need-refused-requires
+refused-requires c κs = search needs
+
+returns : tie.Need-returns
+returns c = appoint-out (c .before .before .before .before .before .before .args .rules .now) (c .before .before .before .before .before .before .args .kinds .now) (c .before .before .before .before .before .before .args .rights .now) (c .before .before .before .before .before .before .args .state .now) (c .before .before .before .before .before .before .pre) (c .before .before .before .before .before .before .args .appointer) (c .before .before .before .before .before .before .args .appointee) (c .before .before .before .before .before .before .args .kind) (c .refused .result) (c .refused .ensures) (out-of-range (isUser (c .before .before .before .before .before .before .args .appointer) ∷ isUser (c .before .before .before .before .before .before .args .appointee) ∷ hasRow (policyOf (lent (c .before .before .before .before .before .before .args .rules .now) (c .before .before .before .before .before .before .args .kinds .now) (c .before .before .before .before .before .before .args .rights .now))) (c .before .before .before .before .before .before .args .kind) ∷ []) 0 (le-ltb (c .before .before .before .before .before .before .args .appointer) 4096 (c .before .if1 .taken)))
+
+-- src/lib.rt:129:9
+refused-requires-2 : tie.Need-refused-requires-2
+refused-requires-2 c κs = search needs
+
+returns-2 : tie.Need-returns-2
+returns-2 c = appoint-out (c .before .before .before .before .before .before .before .args .rules .now) (c .before .before .before .before .before .before .before .args .kinds .now) (c .before .before .before .before .before .before .before .args .rights .now) (c .before .before .before .before .before .before .before .args .state .now) (c .before .before .before .before .before .before .before .pre) (c .before .before .before .before .before .before .before .args .appointer) (c .before .before .before .before .before .before .before .args .appointee) (c .before .before .before .before .before .before .before .args .kind) (c .refused2 .result) (c .refused2 .ensures) (out-of-range (isUser (c .before .before .before .before .before .before .before .args .appointer) ∷ isUser (c .before .before .before .before .before .before .before .args .appointee) ∷ hasRow (policyOf (lent (c .before .before .before .before .before .before .before .args .rules .now) (c .before .before .before .before .before .before .before .args .kinds .now) (c .before .before .before .before .before .before .before .args .rights .now))) (c .before .before .before .before .before .before .before .args .kind) ∷ []) 1 (le-ltb (c .before .before .before .before .before .before .before .args .appointee) 4096 (c .before .if2 .taken)))
+
+-- src/lib.rt:131:36
+wide-requires : tie.Need-wide-requires
+wide-requires c κs = search needs
+
+-- src/lib.rt:132:9
+refused-requires-3 : tie.Need-refused-requires-3
+refused-requires-3 c κs = search needs
+
+returns-3 : tie.Need-returns-3
+returns-3 c = appoint-out (c .before .before .before .before .before .before .before .before .before .args .rules .now) (c .before .before .before .before .before .before .before .before .before .args .kinds .now) (c .before .before .before .before .before .before .before .before .before .args .rights .now) (c .before .before .before .before .before .before .before .before .before .args .state .now) (c .before .before .before .before .before .before .before .before .before .pre) (c .before .before .before .before .before .before .before .before .before .args .appointer) (c .before .before .before .before .before .before .before .before .before .args .appointee) (c .before .before .before .before .before .before .before .before .before .args .kind) (c .refused3 .result) (c .refused3 .ensures) (out-of-range (isUser (c .before .before .before .before .before .before .before .before .before .args .appointer) ∷ isUser (c .before .before .before .before .before .before .before .before .before .args .appointee) ∷ hasRow (policyOf (lent (c .before .before .before .before .before .before .before .before .before .args .rules .now) (c .before .before .before .before .before .before .before .before .before .args .kinds .now) (c .before .before .before .before .before .before .before .before .before .args .rights .now))) (c .before .before .before .before .before .before .before .before .before .args .kind) ∷ []) 2 (no-kind (c .before .before .before .before .before .before .before .before .before .args .rules .now) (c .before .before .before .before .before .before .before .before .before .args .kinds .now) (c .before .before .before .before .before .before .before .before .before .args .rights .now) (c .before .before .before .before .before .before .before .before .before .args .kind) (omega (arith, c .before .before .wide .ensures, c .before .if3 .taken))))
+
+-- src/lib.rt:134:43
+wide-requires-2 : tie.Need-wide-requires-2
+wide-requires-2 c κs = search needs
+
+-- src/lib.rt:134:9
+kind-numbered-requires : tie.Need-kind-numbered-requires
+kind-numbered-requires c κs = search needs
+
+slice-read-wide : tie.Need-slice-read-wide
+slice-read-wide c = omega (arith, sound-sized _ (c .before .before .before .before .before .before .before .before .before .before .before .args .state .now) (c .before .before .before .before .before .before .before .before .before .before .before .pre) .size)
+
+-- src/lib.rt:135:9
+wide-requires-3 : tie.Need-wide-requires-3
+wide-requires-3 c κs = search needs
+
+is-active-requires : tie.Need-is-active-requires
+is-active-requires c κs = (sound-sized _ (c .before .before .before .before .before .before .before .before .before .before .before .before .before .args .state .now) (c .before .before .before .before .before .before .before .before .before .before .before .before .before .pre) .size, omega (arith, c .before .wide3 .ensures, sound-sized _ (c .before .before .before .before .before .before .before .before .before .before .before .before .before .args .state .now) (c .before .before .before .before .before .before .before .before .before .before .before .before .before .pre) .rows))
+
+-- src/lib.rt:137:9
+refused-requires-4 : tie.Need-refused-requires-4
+refused-requires-4 c κs = search needs
+
+-- src/lib.rt:137:9
+same-length : tie.Need-same-length
+same-length c = search needs
+
+returns-4 : tie.Need-returns-4
+returns-4 c = appoint-not-in-role (c .before .before .before .before .before .before .before .before .before .before .before .before .before .before .before .before .args .rules .now) (c .before .before .before .before .before .before .before .before .before .before .before .before .before .before .before .before .args .kinds .now) (c .before .before .before .before .before .before .before .before .before .before .before .before .before .before .before .before .args .rights .now) (c .before .before .before .before .before .before .before .before .before .before .before .before .before .before .before .before .args .state .now) (c .before .before .before .before .before .before .before .before .before .before .before .before .before .before .before .before .pre) (c .before .before .before .before .before .before .before .before .before .before .before .before .before .before .before .before .args .appointer) (c .before .before .before .before .before .before .before .before .before .before .before .before .before .before .before .before .args .appointee) (c .before .before .before .before .before .before .before .before .before .before .before .before .before .before .before .before .args .kind) (c .before .before .before .before .before .before .before .before .before .before .before .if1 .left) (c .before .before .before .before .before .before .before .before .before .before .if2 .left) (omega (arith, c .before .before .before .before .before .before .before .before .before .wide .ensures, c .before .before .before .before .before .before .before .before .if3 .left)) (c .refused4 .result) (c .refused4 .ensures) (ap (λ (x : Kind). active (decode (c .before .before .before .before .before .before .before .before .before .before .before .before .before .before .before .before .args .state .now) .rows) (c .before .before .before .before .before .before .before .before .before .before .before .before .before .before .before .before .args .appointer) (x .appointer)) (sym (c .before .before .before .before .before .before .kind-numbered .ensures ∙ ap (λ (n : ℕ). kindNumbered (policyOf (without-rights [] (c .before .before .before .before .before .before .before .before .before .before .before .before .before .before .before .before .args .kinds .now))) n) (c .before .before .before .before .before .before .before .wide2 .ensures))) ∙ sym (active-now (c .before .before .before .before .before .before .before .before .before .before .before .before .before .before .before .before .args .state .now) (c .before .before .before .before .wide3 .result) (c .before .before .before .before .before .before .before .before .before .before .before .before .before .before .before .before .args .appointer) (c .before .before .before .before .before .before .kind-numbered .result .appointer) (c .before .before .before .before .wide3 .ensures)) ∙ sym (c .before .before .is-active .ensures) ∙ not-true _ (c .before .if4 .taken))
+
+slice-read-wide-2 : tie.Need-slice-read-wide-2
+slice-read-wide-2 c = omega (arith, sound-sized _ (c .before .before .before .before .before .before .before .before .before .before .before .before .before .before .before .before .args .state .now) (c .before .before .before .before .before .before .before .before .before .before .before .before .before .before .before .before .pre) .size)
+
+-- src/lib.rt:144:9
+wide-requires-4 : tie.Need-wide-requires-4
+wide-requires-4 c κs = search needs
+
+find-certificate-requires : tie.Need-find-certificate-requires
+find-certificate-requires c κs = sound-sized _ (c .before .before .before .before .before .before .before .before .before .before .before .before .before .before .before .before .before .before .args .state .now) (c .before .before .before .before .before .before .before .before .before .before .before .before .before .before .before .before .before .before .pre)
+
+-- src/lib.rt:146:9
+refused-requires-5 : tie.Need-refused-requires-5
+refused-requires-5 c κs = search needs
+
+-- src/lib.rt:146:9
+same-length-2 : tie.Need-same-length-2
+same-length-2 c = search needs
+
+returns-5 : tie.Need-returns-5
+returns-5 c = appoint-stands (c .before .before .before .before .before .before .before .before .before .before .before .before .before .before .before .before .before .before .before .before .before .args .rules .now) (c .before .before .before .before .before .before .before .before .before .before .before .before .before .before .before .before .before .before .before .before .before .args .kinds .now) (c .before .before .before .before .before .before .before .before .before .before .before .before .before .before .before .before .before .before .before .before .before .args .rights .now) (c .before .before .before .before .before .before .before .before .before .before .before .before .before .before .before .before .before .before .before .before .before .args .state .now) (c .before .before .before .before .before .before .before .before .before .before .before .before .before .before .before .before .before .before .before .before .before .pre) (c .before .before .before .before .before .before .before .before .before .before .before .before .before .before .before .before .before .before .before .before .before .args .appointer) (c .before .before .before .before .before .before .before .before .before .before .before .before .before .before .before .before .before .before .before .before .before .args .appointee) (c .before .before .before .before .before .before .before .before .before .before .before .before .before .before .before .before .before .before .before .before .before .args .kind) (c .before .before .before .before .before .before .before .before .before .before .before .before .before .before .before .before .if1 .left) (c .before .before .before .before .before .before .before .before .before .before .before .before .before .before .before .if2 .left) (omega (arith, c .before .before .before .before .before .before .before .before .before .before .before .before .before .before .wide .ensures, c .before .before .before .before .before .before .before .before .before .before .before .before .before .if3 .left)) (ap (λ (x : Kind). active (decode (c .before .before .before .before .before .before .before .before .before .before .before .before .before .before .before .before .before .before .before .before .before .args .state .now) .rows) (c .before .before .before .before .before .before .before .before .before .before .before .before .before .before .before .before .before .before .before .before .before .args .appointer) (x .appointer)) (sym (c .before .before .before .before .before .before .before .before .before .before .before .kind-numbered .ensures ∙ ap (λ (n : ℕ). kindNumbered (policyOf (without-rights [] (c .before .before .before .before .before .before .before .before .before .before .before .before .before .before .before .before .before .before .before .before .before .args .kinds .now))) n) (c .before .before .before .before .before .before .before .before .before .before .before .before .wide2 .ensures))) ∙ sym (active-now (c .before .before .before .before .before .before .before .before .before .before .before .before .before .before .before .before .before .before .before .before .before .args .state .now) (c .before .before .before .before .before .before .before .before .before .wide3 .result) (c .before .before .before .before .before .before .before .before .before .before .before .before .before .before .before .before .before .before .before .before .before .args .appointer) (c .before .before .before .before .before .before .before .before .before .before .before .kind-numbered .result .appointer) (c .before .before .before .before .before .before .before .before .before .wide3 .ensures)) ∙ sym (c .before .before .before .before .before .before .before .is-active .ensures) ∙ not-false _ (c .before .before .before .before .before .before .if4 .left)) (c .before .before .find-certificate .result) (c .before .before .find-certificate .ensures) (c .refused5 .result) (c .refused5 .ensures) (omega (arith, c .before .before .before .before .wide4 .ensures))
+
+-- src/lib.rt:149:9
+refused-requires-6 : tie.Need-refused-requires-6
+refused-requires-6 c κs = search needs
+
+-- src/lib.rt:149:9
+same-length-3 : tie.Need-same-length-3
+same-length-3 c = search needs
+
+returns-6 : tie.Need-returns-6
+returns-6 c = appoint-full (c .before .before .before .before .before .before .before .before .before .before .before .before .before .before .before .before .before .before .before .before .before .before .args .rules .now) (c .before .before .before .before .before .before .before .before .before .before .before .before .before .before .before .before .before .before .before .before .before .before .args .kinds .now) (c .before .before .before .before .before .before .before .before .before .before .before .before .before .before .before .before .before .before .before .before .before .before .args .rights .now) (c .before .before .before .before .before .before .before .before .before .before .before .before .before .before .before .before .before .before .before .before .before .before .args .state .now) (c .before .before .before .before .before .before .before .before .before .before .before .before .before .before .before .before .before .before .before .before .before .before .pre) (c .before .before .before .before .before .before .before .before .before .before .before .before .before .before .before .before .before .before .before .before .before .before .args .appointer) (c .before .before .before .before .before .before .before .before .before .before .before .before .before .before .before .before .before .before .before .before .before .before .args .appointee) (c .before .before .before .before .before .before .before .before .before .before .before .before .before .before .before .before .before .before .before .before .before .before .args .kind) (c .before .before .before .before .before .before .before .before .before .before .before .before .before .before .before .before .before .if1 .left) (c .before .before .before .before .before .before .before .before .before .before .before .before .before .before .before .before .if2 .left) (omega (arith, c .before .before .before .before .before .before .before .before .before .before .before .before .before .before .before .wide .ensures, c .before .before .before .before .before .before .before .before .before .before .before .before .before .before .if3 .left)) (ap (λ (x : Kind). active (decode (c .before .before .before .before .before .before .before .before .before .before .before .before .before .before .before .before .before .before .before .before .before .before .args .state .now) .rows) (c .before .before .before .before .before .before .before .before .before .before .before .before .before .before .before .before .before .before .before .before .before .before .args .appointer) (x .appointer)) (sym (c .before .before .before .before .before .before .before .before .before .before .before .before .kind-numbered .ensures ∙ ap (λ (n : ℕ). kindNumbered (policyOf (without-rights [] (c .before .before .before .before .before .before .before .before .before .before .before .before .before .before .before .before .before .before .before .before .before .before .args .kinds .now))) n) (c .before .before .before .before .before .before .before .before .before .before .before .before .before .wide2 .ensures))) ∙ sym (active-now (c .before .before .before .before .before .before .before .before .before .before .before .before .before .before .before .before .before .before .before .before .before .before .args .state .now) (c .before .before .before .before .before .before .before .before .before .before .wide3 .result) (c .before .before .before .before .before .before .before .before .before .before .before .before .before .before .before .before .before .before .before .before .before .before .args .appointer) (c .before .before .before .before .before .before .before .before .before .before .before .before .kind-numbered .result .appointer) (c .before .before .before .before .before .before .before .before .before .before .wide3 .ensures)) ∙ sym (c .before .before .before .before .before .before .before .before .is-active .ensures) ∙ not-false _ (c .before .before .before .before .before .before .before .if4 .left)) (c .before .before .before .find-certificate .result) (c .before .before .before .find-certificate .ensures) (omega (arith, c .before .before .before .before .before .wide4 .ensures)) (c .refused6 .result) (c .refused6 .ensures) (omega (arith, c .before .before .before .before .before .wide4 .ensures))
+
+append-certificate-requires : tie.Need-append-certificate-requires
+append-certificate-requires c κs = (sound-form _ (c .before .before .before .before .before .before .before .before .before .before .before .before .before .before .before .before .before .before .before .before .before .before .args .state .now) (c .before .before .before .before .before .before .before .before .before .before .before .before .before .before .before .before .before .before .before .before .before .before .pre), omega (arith, c .before .before .before .before .before .wide4 .ensures))
+
+-- src/lib.rt:152:5
+refused-requires-7 : tie.Need-refused-requires-7
+refused-requires-7 c κs = search needs
+
+-- src/lib.rt:121:1
+same-length-4 : tie.Need-same-length-4
+same-length-4 c = search needs
+
+returns-7 : tie.Need-returns-7
+returns-7 c = appoint-done (c .before .before .before .before .before .before .before .before .before .before .before .before .before .before .before .before .before .before .before .before .before .before .before .before .before .before .args .rules .now) (c .before .before .before .before .before .before .before .before .before .before .before .before .before .before .before .before .before .before .before .before .before .before .before .before .before .before .args .kinds .now) (c .before .before .before .before .before .before .before .before .before .before .before .before .before .before .before .before .before .before .before .before .before .before .before .before .before .before .args .rights .now) (c .before .before .before .before .before .before .before .before .before .before .before .before .before .before .before .before .before .before .before .before .before .before .before .before .before .before .args .state .now) (c .before .before .before .before .before .before .before .before .before .before .before .before .before .before .before .before .before .before .before .before .before .before .before .before .before .before .pre) (c .before .before .before .before .before .before .before .before .before .before .before .before .before .before .before .before .before .before .before .before .before .before .before .before .before .before .args .appointer) (c .before .before .before .before .before .before .before .before .before .before .before .before .before .before .before .before .before .before .before .before .before .before .before .before .before .before .args .appointee) (c .before .before .before .before .before .before .before .before .before .before .before .before .before .before .before .before .before .before .before .before .before .before .before .before .before .before .args .kind) (c .before .before .before .before .before .before .before .before .before .before .before .before .before .before .before .before .before .before .before .before .before .if1 .left) (c .before .before .before .before .before .before .before .before .before .before .before .before .before .before .before .before .before .before .before .before .if2 .left) (omega (arith, c .before .before .before .before .before .before .before .before .before .before .before .before .before .before .before .before .before .before .before .wide .ensures, c .before .before .before .before .before .before .before .before .before .before .before .before .before .before .before .before .before .before .if3 .left)) (ap (λ (x : Kind). active (decode (c .before .before .before .before .before .before .before .before .before .before .before .before .before .before .before .before .before .before .before .before .before .before .before .before .before .before .args .state .now) .rows) (c .before .before .before .before .before .before .before .before .before .before .before .before .before .before .before .before .before .before .before .before .before .before .before .before .before .before .args .appointer) (x .appointer)) (sym (c .before .before .before .before .before .before .before .before .before .before .before .before .before .before .before .before .kind-numbered .ensures ∙ ap (λ (n : ℕ). kindNumbered (policyOf (without-rights [] (c .before .before .before .before .before .before .before .before .before .before .before .before .before .before .before .before .before .before .before .before .before .before .before .before .before .before .args .kinds .now))) n) (c .before .before .before .before .before .before .before .before .before .before .before .before .before .before .before .before .before .wide2 .ensures))) ∙ sym (active-now (c .before .before .before .before .before .before .before .before .before .before .before .before .before .before .before .before .before .before .before .before .before .before .before .before .before .before .args .state .now) (c .before .before .before .before .before .before .before .before .before .before .before .before .before .before .wide3 .result) (c .before .before .before .before .before .before .before .before .before .before .before .before .before .before .before .before .before .before .before .before .before .before .before .before .before .before .args .appointer) (c .before .before .before .before .before .before .before .before .before .before .before .before .before .before .before .before .kind-numbered .result .appointer) (c .before .before .before .before .before .before .before .before .before .before .before .before .before .before .wide3 .ensures)) ∙ sym (c .before .before .before .before .before .before .before .before .before .before .before .before .is-active .ensures) ∙ not-false _ (c .before .before .before .before .before .before .before .before .before .before .before .if4 .left)) (c .before .before .before .before .before .before .before .find-certificate .result) (c .before .before .before .before .before .before .before .find-certificate .ensures) (omega (arith, c .before .before .before .before .before .before .before .before .before .wide4 .ensures)) (c .refused7 .result) _ (omega (arith, c .before .before .before .before .before .before .before .before .before .wide4 .ensures)) (c .refused7 .ensures) (c .before .before .before .append-certificate .ensures)
+
+pub appoint-spec : {M : Type 1} → statement M
+appoint-spec =
+    tie.close
+    (tie.spec
+    refused-requires
+    returns
+    refused-requires-2
+    returns-2
+    wide-requires
+    refused-requires-3
+    returns-3
+    wide-requires-2
+    kind-numbered-requires
+    slice-read-wide
+    wide-requires-3
+    is-active-requires
+    refused-requires-4
+    same-length
+    returns-4
+    slice-read-wide-2
+    wide-requires-4
+    find-certificate-requires
+    refused-requires-5
+    same-length-2
+    returns-5
+    refused-requires-6
+    same-length-3
+    returns-6
+    append-certificate-requires
+    refused-requires-7
+    same-length-4
+    returns-7)

@@ -1,0 +1,23 @@
+use mathlib.Core.Path.{_≡_, sym, ap, _∙_}
+use mathlib.Core.Bool.{Bool, _&&_}
+use borrow.Author.Tests.{eq-eqb, ne-eqb}
+use Rattle.model.specs.Layout.{policyOf}
+use Rattle.model.specs.Effective.{direct}
+use Rattle.inner.specs.Lent.{lent}
+use mathlib.Core.List.{[]}
+use borrow.Author.Needs.{needs}
+use Rattle.inner.proofs.row_carries.Statement.{statement}
+use Rattle.inner.proofs.row_carries.Tie as tie
+
+-- src/lib.rt:299:9
+has-right-requires : tie.Need-has-right-requires
+has-right-requires c κs = search needs
+
+returns : tie.Need-returns
+returns c = c .has-right .ensures ∙ sym (ap (λ (b : Bool). b && direct (policyOf (lent [] [] (c .before .before .before .before .args .rights .now))) (c .before .before .before .before .args .row .role) (c .before .before .before .before .args .privilege)) (eq-eqb _ _ (c .before .if1 .taken)))
+
+returns-2 : tie.Need-returns-2
+returns-2 c = sym (ap (λ (b : Bool). b && direct (policyOf (lent [] [] (c .before .before .before .args .rights .now))) (c .before .before .before .args .row .role) (c .before .before .before .args .privilege)) (ne-eqb _ _ (c .if1 .left)))
+
+pub row-carries-spec : {M : Type 1} → statement M
+row-carries-spec = tie.close (tie.spec has-right-requires returns returns-2)

@@ -1,0 +1,334 @@
+// The calls on sound tables, for code that can show that they are sound. Each equals the model's call.
+ghost use mathlib.Core.Path.{_≡_};
+ghost use mathlib.Core.Bool.{true, _&&_};
+ghost use mathlib.Core.List.{[], _++_};
+ghost use lib.Dec.{eqb};
+ghost use Prim.Native.Nat.{suc, _+_, _/_, _<_, _≤_};
+ghost use lib.ListN.{length, take, drop};
+ghost use Rattle.model.specs.Lists.{any, firstPlace};
+ghost use Rattle.model.specs.Limits.{mostRows};
+ghost use Rattle.model.specs.Records.{withCertificates};
+ghost use Rattle.model.specs.Layout.{decode, policyOf, certificateCount};
+ghost use Rattle.model.specs.Conditions.{satisfied, kindNumbered};
+ghost use Rattle.model.specs.Sound.{wellFormed, sameCertificate};
+ghost use Rattle.model.specs.Effective.{direct};
+ghost use Rattle.model.specs.Calls.{activate as activateCall, appoint as appointCall, revoke as revokeCall, withdraw as withdrawCall, environment as environmentCall, logout as logoutCall, invoke as invokeCall, allowed, mayRevoke};
+ghost use Rattle.model.specs.Words.{Sound};
+ghost use Rattle.table.specs.Entries.{worldAt, without-rights, Sized};
+ghost use Rattle.inner.specs.Lent.{lent, Answers, Fallen};
+use model::Answer;
+use model::Certificate;
+use model::Right;
+use model::Row;
+
+const USERS: u16 = 4096;
+
+const ROLES: u16 = 256;
+
+const PRIVILEGES: u16 = 1024;
+
+const FACTS: u16 = 64;
+
+const ROW_COUNT: usize = 64;
+
+const CERTIFICATE_COUNT: usize = 833;
+
+const RULE_WIDTH: usize = 11;
+
+const KIND_WIDTH: usize = 7;
+
+const RIGHT_WIDTH: usize = 2;
+
+fn refused(code: u16) -> Answer
+    ensures { λ r. ⌜ (r .code ≡ code) × (r .second ≡ 0) ⌝ }
+{
+    Answer { code, second: 0 }
+}
+
+// The lowest rule for the role whose conditions all hold for the user, or the number of rules if there is none.
+fn lowest_rule(rules: &[u16], kinds: &[u16], state: &[u16], user: u16, role: u16) -> usize
+    requires { ⌜ Sized (now state) ⌝ }
+    ensures { λ r. ⌜ r ≡ firstPlace (satisfied (worldAt (now (rules .entry)) (now (kinds .entry)) (now (state .entry))) (decode (now (state .entry)) .rows) user role) (policyOf (without-rights (now (rules .entry)) (now (kinds .entry))) .rules) ⌝ }
+{
+    let n = rules.len() / RULE_WIDTH;
+    let mut i: usize = 0;
+    while i < n {
+        if table::rule_satisfied(rules, kinds, state, user, role, i) {
+            return i;
+        }
+        i += 1;
+    }
+    i
+}
+
+fn same_certificate(a: Certificate, b: Certificate) -> bool
+    ensures { λ r. ⌜ r ≡ sameCertificate a b ⌝ }
+{
+    if a.appointee != b.appointee {
+        return false;
+    }
+    if a.kind != b.kind {
+        return false;
+    }
+    a.appointer == b.appointer
+}
+
+// Where the certificate stands, or the number of certificates if it does not.
+fn find_certificate(state: &[u16], certificate: Certificate) -> usize
+    requires { ⌜ Sized (now state) ⌝ }
+    ensures { λ r. ⌜ r ≡ firstPlace (sameCertificate certificate) (decode (now (state .entry)) .certificates) ⌝ }
+{
+    let n = table::wide(state[CERTIFICATE_COUNT]);
+    let mut i: usize = 0;
+    while i < n {
+        if same_certificate(certificate, table::certificate_at(state, i)) {
+            return i;
+        }
+        i += 1;
+    }
+    i
+}
+
+pub fn activate(rules: &[u16], kinds: &[u16], rights: &[u16], state: &mut [u16], user: u16, role: u16) -> Answer
+    requires { ⌜ Sound (lent (now rules) (now kinds) (now rights)) (now state) ⌝ }
+    ensures { λ r. ⌜ Answers (lent (now (rules .entry)) (now (kinds .entry)) (now (rights .entry))) (now (state .entry)) (activateCall user role) r (now (state .exit)) ⌝ }
+{
+    if USERS <= user {
+        return refused(3);
+    }
+    if ROLES <= role {
+        return refused(3);
+    }
+    let k = table::wide(state[ROW_COUNT]);
+    if table::is_active(state, k, user, role) {
+        return refused(4);
+    }
+    let i = lowest_rule(rules, kinds, state, user, role);
+    if rules.len() / RULE_WIDTH <= i {
+        return refused(5);
+    }
+    if 256 <= k {
+        return refused(6);
+    }
+    let rule = i as u16;
+    change::append_row(state, Row { user, role, rule });
+    Answer {
+        code: 0,
+        second: rule,
+    }
+}
+
+pub fn appoint(rules: &[u16], kinds: &[u16], rights: &[u16], state: &mut [u16], appointer: u16, appointee: u16, kind: u16) -> Answer
+    requires { ⌜ Sound (lent (now rules) (now kinds) (now rights)) (now state) ⌝ }
+    ensures { λ r. ⌜ Answers (lent (now (rules .entry)) (now (kinds .entry)) (now (rights .entry))) (now (state .entry)) (appointCall appointer appointee kind) r (now (state .exit)) ⌝ }
+{
+    if USERS <= appointer {
+        return refused(3);
+    }
+    if USERS <= appointee {
+        return refused(3);
+    }
+    if kinds.len() / KIND_WIDTH <= table::wide(kind) {
+        return refused(3);
+    }
+    let row = table::kind_numbered(kinds, table::wide(kind));
+    let k = table::wide(state[ROW_COUNT]);
+    if !table::is_active(state, k, appointer, row.appointer) {
+        return refused(7);
+    }
+    let certificate = Certificate {
+        appointee,
+        kind,
+        appointer,
+    };
+    let n = table::wide(state[CERTIFICATE_COUNT]);
+    if find_certificate(state, certificate) < n {
+        return refused(8);
+    }
+    if 256 <= n {
+        return refused(6);
+    }
+    change::append_certificate(state, certificate);
+    refused(0)
+}
+
+// Certificate j goes, and the rows that lose their support fall. Returns how many rows were lost.
+fn take_certificate(rules: &[u16], kinds: &[u16], state: &mut [u16], j: usize) -> u16
+    requires { ⌜ (wellFormed (now state) ≡ true) × (j < certificateCount (now state)) ⌝ }
+    ensures { λ r. ⌜ Fallen (now (rules .entry)) (now (kinds .entry)) (withCertificates (decode (now (state .entry))) (take j (decode (now (state .entry)) .certificates) ++ drop (suc j) (decode (now (state .entry)) .certificates))) (now (state .exit)) r ⌝ }
+{
+    change::remove_certificate(state, j);
+    fall::fall(rules, kinds, state)
+}
+
+// Mode and caller allow the certificate's revocation.
+fn may_revoke(kinds: &[u16], state: &[u16], caller: u16, kind: u16, appointer: u16) -> bool
+    requires { ⌜ Sized (now state) ⌝ }
+    ensures { λ r. ⌜ r ≡ mayRevoke (decode (now (state .entry)) .rows) (kindNumbered (policyOf (without-rights [] (now (kinds .entry)))) kind) caller appointer ⌝ }
+{
+    let row = table::kind_numbered(kinds, table::wide(kind));
+    let mode = row.mode;
+    if mode == 0 {
+        return caller == appointer;
+    }
+    if mode == 1 {
+        let k = table::wide(state[ROW_COUNT]);
+        return table::is_active(state, k, caller, row.appointer);
+    }
+    false
+}
+
+pub fn revoke(rules: &[u16], kinds: &[u16], rights: &[u16], state: &mut [u16], caller: u16, appointee: u16, kind: u16, appointer: u16) -> Answer
+    requires { ⌜ Sound (lent (now rules) (now kinds) (now rights)) (now state) ⌝ }
+    ensures { λ r. ⌜ Answers (lent (now (rules .entry)) (now (kinds .entry)) (now (rights .entry))) (now (state .entry)) (revokeCall caller appointee kind appointer) r (now (state .exit)) ⌝ }
+{
+    if USERS <= caller {
+        return refused(3);
+    }
+    if USERS <= appointee {
+        return refused(3);
+    }
+    if kinds.len() / KIND_WIDTH <= table::wide(kind) {
+        return refused(3);
+    }
+    if USERS <= appointer {
+        return refused(3);
+    }
+    let j = find_certificate(
+        state,
+        Certificate {
+            appointee,
+            kind,
+            appointer,
+        },
+    );
+    if table::wide(state[CERTIFICATE_COUNT]) <= j {
+        return refused(9);
+    }
+    if !may_revoke(kinds, state, caller, kind, appointer) {
+        return refused(10);
+    }
+    let second = take_certificate(rules, kinds, state, j);
+    Answer { code: 0, second }
+}
+
+pub fn withdraw(rules: &[u16], kinds: &[u16], rights: &[u16], state: &mut [u16], appointee: u16, kind: u16, appointer: u16) -> Answer
+    requires { ⌜ Sound (lent (now rules) (now kinds) (now rights)) (now state) ⌝ }
+    ensures { λ r. ⌜ Answers (lent (now (rules .entry)) (now (kinds .entry)) (now (rights .entry))) (now (state .entry)) (withdrawCall appointee kind appointer) r (now (state .exit)) ⌝ }
+{
+    if USERS <= appointee {
+        return refused(3);
+    }
+    if kinds.len() / KIND_WIDTH <= table::wide(kind) {
+        return refused(3);
+    }
+    if USERS <= appointer {
+        return refused(3);
+    }
+    let j = find_certificate(
+        state,
+        Certificate {
+            appointee,
+            kind,
+            appointer,
+        },
+    );
+    if table::wide(state[CERTIFICATE_COUNT]) <= j {
+        return refused(9);
+    }
+    let second = take_certificate(rules, kinds, state, j);
+    Answer { code: 0, second }
+}
+
+pub fn environment(rules: &[u16], kinds: &[u16], rights: &[u16], state: &mut [u16], fact: u16, value: u16) -> Answer
+    requires { ⌜ Sound (lent (now rules) (now kinds) (now rights)) (now state) ⌝ }
+    ensures { λ r. ⌜ Answers (lent (now (rules .entry)) (now (kinds .entry)) (now (rights .entry))) (now (state .entry)) (environmentCall fact value) r (now (state .exit)) ⌝ }
+{
+    if FACTS <= fact {
+        return refused(3);
+    }
+    if 2 <= value {
+        return refused(3);
+    }
+    change::set_fact(state, table::wide(fact), value);
+    let second = fall::fall(rules, kinds, state);
+    Answer { code: 0, second }
+}
+
+pub fn logout(rules: &[u16], kinds: &[u16], rights: &[u16], state: &mut [u16], user: u16) -> Answer
+    requires { ⌜ Sound (lent (now rules) (now kinds) (now rights)) (now state) ⌝ }
+    ensures { λ r. ⌜ Answers (lent (now (rules .entry)) (now (kinds .entry)) (now (rights .entry))) (now (state .entry)) (logoutCall user) r (now (state .exit)) ⌝ }
+{
+    if USERS <= user {
+        return refused(3);
+    }
+    let second = fall::drop_user(state, user);
+    Answer { code: 0, second }
+}
+
+// The right is one of the role to the privilege.
+fn right_is(right: Right, role: u16, privilege: u16) -> bool
+    ensures { λ r. ⌜ r ≡ (eqb (right .role) role && eqb (right .privilege) privilege) ⌝ }
+{
+    if right.role == role {
+        return right.privilege == privilege;
+    }
+    false
+}
+
+// The role has the privilege itself.
+pub fn has_right(rights: &[u16], role: u16, privilege: u16) -> bool
+    ensures { λ r. ⌜ r ≡ direct (policyOf (lent [] [] (now (rights .entry)))) role privilege ⌝ }
+{
+    let n = rights.len() / RIGHT_WIDTH;
+    let mut i: usize = 0;
+    while i < n {
+        if right_is(table::right_at(rights, i), role, privilege) {
+            return true;
+        }
+        i += 1;
+    }
+    false
+}
+
+// The row is the user's, and its role has the privilege.
+fn row_carries(rights: &[u16], row: Row, user: u16, privilege: u16) -> bool
+    ensures { λ r. ⌜ r ≡ (eqb (row .user) user && direct (policyOf (lent [] [] (now (rights .entry)))) (row .role) privilege) ⌝ }
+{
+    if row.user == user {
+        return has_right(rights, row.role, privilege);
+    }
+    false
+}
+
+// Some active role of the user has the privilege.
+fn may_invoke(rights: &[u16], state: &[u16], user: u16, privilege: u16) -> bool
+    requires { ⌜ Sized (now state) ⌝ }
+    ensures { λ r. ⌜ r ≡ allowed (policyOf (lent [] [] (now (rights .entry)))) (decode (now (state .entry)) .rows) user privilege ⌝ }
+{
+    let n = table::wide(state[ROW_COUNT]);
+    let mut i: usize = 0;
+    while i < n {
+        if row_carries(rights, table::row_at(state, i), user, privilege) {
+            return true;
+        }
+        i += 1;
+    }
+    false
+}
+
+pub fn invoke(rules: &[u16], kinds: &[u16], rights: &[u16], state: &[u16], user: u16, privilege: u16) -> Answer
+    requires { ⌜ Sound (lent (now rules) (now kinds) (now rights)) (now state) ⌝ }
+    ensures { λ r. ⌜ Answers (lent (now (rules .entry)) (now (kinds .entry)) (now (rights .entry))) (now (state .entry)) (invokeCall user privilege) r (now (state .entry)) ⌝ }
+{
+    if USERS <= user {
+        return refused(3);
+    }
+    if PRIVILEGES <= privilege {
+        return refused(3);
+    }
+    if may_invoke(rights, state, user, privilege) {
+        return Answer { code: 0, second: 1 };
+    }
+    refused(0)
+}

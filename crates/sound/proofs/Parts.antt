@@ -1,0 +1,71 @@
+-- Parts of a list that code reads by their places, tables judged entry by entry, each over those before it, and what a well formed
+-- state keeps to.
+use Prim.Native.Nat.{ℕ, zero, suc, _+_, _-_, _≤_, _<_}
+use mathlib.Core.Path.{_≡_, sym, ap, _∙_}
+use mathlib.Core.Bool.{Bool, true, false, _&&_}
+use mathlib.Core.Logic.{_⊎_, inl, inr}
+use mathlib.Core.List.{List, [], _∷_}
+use native.Mathlib.Omega.{arith}
+use native.Mathlib.Numerals.{add-one}
+use lib.Dec.{eqb→eq, leb→le}
+use lib.ListN.{length, take, drop, length-drop}
+use lib.Seq.{take-add, drop-at, drop-drop, length-take-le}
+use Rattle.model.specs.Lists.{allOverEarlier}
+use Rattle.model.specs.Limits.{stateSize, mostRows, mostCertificates}
+use Rattle.model.specs.Layout.{rowCount, certificateCount}
+use Rattle.model.specs.Sound.{formClauses, wellFormed}
+use Rattle.model.proofs.Tests.{of-true, each, earlier-append, lt-or-ge}
+use Rattle.table.specs.Entries.{entry, entries, Sized}
+use Rattle.table.proofs.Entries.{entries-more}
+use Rattle.sound.proofs.Clauses.{and-false}
+
+-- ── what stands past the part in use ──
+
+module _ (l : List ℕ) (b : ℕ) where
+  -- of w numbers that stand at b, those past the first k
+  pub past : (w k : ℕ) → k ≤ w → b + w ≤ length l → drop k (take w (drop b l)) ≡ take (w - k) (drop (b + k) l)
+  past w k h fits =
+      let e : w ≡ k + (w - k) = omega arith in
+      ap (λ (n : ℕ). drop k (take n (drop b l))) e
+      ∙ ap (drop k) (take-add k (w - k) (drop b l))
+      ∙ drop-at (take k (drop b l)) (take (w - k) (drop k (drop b l))) k (length-take-le k (drop b l) (simp length-drop (omega arith)))
+      ∙ ap (take (w - k)) (drop-drop k b l)
+
+  -- the same in a row whose first three numbers are not among them
+  pub past-three : (w n : ℕ) → n ≤ w → b + (3 + w) ≤ length l → drop n (drop 3 (take (3 + w) (drop b l))) ≡ take (w - n) (drop (b + 3 + n) l)
+  past-three w n h fits =
+      let e : 3 + w - (3 + n) ≡ w - n = omega arith in
+      let q : b + (3 + n) ≡ b + 3 + n = omega arith in
+      drop-drop n 3 (take (3 + w) (drop b l)) ∙ past (3 + w) (3 + n) (omega arith) fits ∙ (λ i. take (e i) (drop (q i) l))
+
+-- ── a loop that judges each entry over those before it ──
+
+module _ {A : Type 0} (from : List ℕ → A) (width : ℕ) (test : List A → A → Bool) (table : List ℕ) where
+  one-more : (j : ℕ) → allOverEarlier test [] (entries from width table (j + 1)) ≡ (allOverEarlier test [] (entries from width table j) && (test (entries from width table j) (entry from width table j) && true))
+  one-more j = ap (allOverEarlier test []) (entries-more from width table j) ∙ earlier-append test [] (entries from width table j) (entry from width table j ∷ [])
+
+  pub earlier-next : (j : ℕ) → allOverEarlier test [] (entries from width table j) ≡ true → test (entries from width table j) (entry from width table j) ≡ true → allOverEarlier test [] (entries from width table (j + 1)) ≡ true
+  earlier-next j a e = one-more j ∙ (λ i. a i && (e i && true))
+
+  pub earlier-miss : (n j : ℕ) → j < n → test (entries from width table j) (entry from width table j) ≡ false → allOverEarlier test [] (entries from width table n) ≡ false
+  earlier-miss zero j h e = absurd (omega arith)
+  earlier-miss (suc n) j h e = ap (λ (k : ℕ). allOverEarlier test [] (entries from width table k)) (sym (add-one n)) ∙ one-more n ∙ go (λ l. earlier-miss n j l e) (lt-or-ge j n)
+    where
+      go : (j < n → allOverEarlier test [] (entries from width table n) ≡ false) → (j < n) ⊎ (n ≤ j) → (allOverEarlier test [] (entries from width table n) && (test (entries from width table n) (entry from width table n) && true)) ≡ false
+      go before (inl l) = ap (λ (b : Bool). b && (test (entries from width table n) (entry from width table n) && true)) (before l)
+      go before (inr l) =
+          let q : n ≡ j = omega arith in
+          ap (λ (k : ℕ). allOverEarlier test [] (entries from width table n) && (test (entries from width table k) (entry from width table k) && true)) q
+          ∙ ap (λ (b : Bool). allOverEarlier test [] (entries from width table n) && (b && true)) e
+          ∙ and-false (allOverEarlier test [] (entries from width table n))
+
+-- ── a well formed state ──
+
+pub sized : (s : List ℕ) → wellFormed s ≡ true → Sized s
+unfolding formClauses
+sized s e =
+    record {
+      size = eqb→eq (length s) stateSize (each (formClauses s) (of-true (wellFormed s) e) .0);
+      rows = leb→le (rowCount s) mostRows (each (formClauses s) (of-true (wellFormed s) e) .1 .1 .0);
+      certificates = leb→le (certificateCount s) mostCertificates (each (formClauses s) (of-true (wellFormed s) e) .1 .1 .1 .0);
+    }

@@ -1,0 +1,72 @@
+-- What soundness does not look at: a rule and a certificate name kinds, a row names kinds and a rule, and soundness of a state reads no
+-- right.
+use Prim.Native.Nat.{ℕ}
+use mathlib.Core.Path.{_≡_, refl, ap, _∙_}
+use mathlib.Core.Bool.{not, _&&_}
+use mathlib.Core.List.{List, [], _∷_}
+use lib.Dec.{eqb, ltb, leb}
+use lib.ListN.{length, getD, drop}
+use Rattle.model.specs.Lists.{every, any, all, allOverEarlier, isZero}
+use Rattle.model.specs.Limits.{users, roles, mostConditions}
+use Rattle.model.specs.Records.{Tables, Policy, State, worldOf}
+use Rattle.model.specs.Layout.{policyOf, decode}
+use Rattle.model.specs.Conditions.{Condition, role, kind, fact, malformed, meant, activating, membership, noRule, active, allHold, supported}
+use Rattle.model.specs.Sound.{conditionFits, ruleClauses, ruleFits, sameCertificate, certificateClauses, certificateSound, rowClauses, rowSound, wellFormed, soundRecords, sound}
+use Rattle.model.specs.declared.Rule.{Rule}
+use Rattle.model.specs.declared.Kind.{Kind}
+use Rattle.model.specs.declared.Row.{Row}
+use Rattle.model.specs.declared.Certificate.{Certificate}
+use Rattle.table.specs.Entries.{without-rights}
+use Rattle.table.proofs.Worlds.{all-hold-same}
+
+module _ (p₁ p₂ : Policy) (kinds : p₁ .kinds ≡ p₂ .kinds) where
+  condition-fits-same : (c : Condition) → conditionFits p₁ c ≡ conditionFits p₂ c
+  unfolding conditionFits
+  condition-fits-same (role q) = refl
+  condition-fits-same (kind k) = ap (λ (ks : List Kind). ltb k (length ks)) kinds
+  condition-fits-same (fact f) = refl
+  condition-fits-same malformed = refl
+
+  rule-clauses-same : (r : Rule) → ruleClauses p₁ r ≡ ruleClauses p₂ r
+  unfolding ruleClauses
+  rule-clauses-same r = λ i. ltb (r .target) roles ∷ leb (r .m) (r .n) ∷ leb (r .n) mostConditions ∷ all (λ (c : ℕ). condition-fits-same (meant c) i) (activating r) ∷ all isZero (drop (r .n) (r .conditions)) ∷ []
+
+  pub rules-fit-same : (rules : List Rule) → all (ruleFits p₁) rules ≡ all (ruleFits p₂) rules
+  rules-fit-same rules = λ i. all (λ (r : Rule). every (rule-clauses-same r i)) rules
+
+  certificate-clauses-same : (earlier : List Certificate) (c : Certificate) → certificateClauses p₁ earlier c ≡ certificateClauses p₂ earlier c
+  unfolding certificateClauses
+  certificate-clauses-same earlier c = λ i. ltb (c .appointee) users ∷ ltb (c .kind) (length (kinds i)) ∷ ltb (c .appointer) users ∷ not (any (sameCertificate c) earlier) ∷ []
+
+  pub certificates-same : (cs : List Certificate) → allOverEarlier (certificateSound p₁) [] cs ≡ allOverEarlier (certificateSound p₂) [] cs
+  certificates-same cs = λ i. allOverEarlier (λ (earlier : List Certificate) (c : Certificate). every (certificate-clauses-same earlier c i)) [] cs
+
+  module _ (t : State) (rules : p₁ .rules ≡ p₂ .rules) where
+    supported-same : (earlier : List Row) (r : Row) → supported (worldOf p₁ t) earlier r ≡ supported (worldOf p₂ t) earlier r
+    unfolding supported
+    supported-same earlier r =
+        ap (λ (rs : List Rule). allHold (worldOf p₁ t) earlier (r .user) (membership (getD rs (r .rule) noRule))) rules
+        ∙ all-hold-same p₁ p₂ t kinds earlier (r .user) (membership (getD (p₂ .rules) (r .rule) noRule))
+
+    row-clauses-same : (earlier : List Row) (r : Row) → rowClauses (worldOf p₁ t) earlier r ≡ rowClauses (worldOf p₂ t) earlier r
+    unfolding rowClauses
+    row-clauses-same earlier r =
+        λ i.
+        ltb (r .user) users
+        ∷ ltb (r .role) roles
+        ∷ not (active earlier (r .user) (r .role))
+        ∷ ltb (r .rule) (length (rules i))
+        ∷ eqb (getD (rules i) (r .rule) noRule .target) (r .role)
+        ∷ supported-same earlier r i
+        ∷ []
+
+    rows-same : (rows : List Row) → allOverEarlier (rowSound (worldOf p₁ t)) [] rows ≡ allOverEarlier (rowSound (worldOf p₂ t)) [] rows
+    rows-same rows = λ i. allOverEarlier (λ (earlier : List Row) (r : Row). every (row-clauses-same earlier r i)) [] rows
+
+pub sound-without-rights : (t : Tables) (s : List ℕ) → sound (policyOf (without-rights (t .rules) (t .kinds))) s ≡ sound (policyOf t) s
+unfolding sound soundRecords policyOf
+sound-without-rights t s =
+    λ i.
+    wellFormed s
+    && (certificates-same (policyOf (without-rights (t .rules) (t .kinds))) (policyOf t) refl (decode s .certificates) i
+    && rows-same (policyOf (without-rights (t .rules) (t .kinds))) (policyOf t) refl (decode s) refl (decode s .rows) i)

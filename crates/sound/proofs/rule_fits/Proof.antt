@@ -1,0 +1,109 @@
+use Prim.Native.Nat.{_*_}
+use mathlib.Core.Path.{sym, ap, _∙_}
+use native.Mathlib.Omega.{arith}
+use lib.ListN.{drop}
+use borrow.Author.Tests.{lt-ltb, le-ltb, le-leb, lt-leb, not-true, not-false}
+use Rattle.model.specs.Lists.{all, isZero}
+use Rattle.model.specs.Sound.{ruleClauses}
+use Rattle.model.specs.declared.Rule.{Rule}
+use Rattle.table.specs.Entries.{ruleAt}
+use Rattle.sound.specs.Lent.{kindsOnly}
+use Rattle.sound.proofs.Clauses.{here, later, fails-at, passes-at}
+use Rattle.sound.proofs.Parts.{past-three}
+use borrow.Author.Needs.{needs}
+use Rattle.sound.proofs.rule_fits.Statement.{statement}
+use Rattle.sound.proofs.rule_fits.Tie as tie
+
+rule-at-requires : tie.Need-rule-at-requires
+rule-at-requires c κs = search needs
+
+returns : tie.Need-returns
+unfolding ruleClauses
+returns c = fails-at (ruleClauses (kindsOnly (c .before .before .before .before .before .args .kinds .now))) (c .before .before .rule-at .ensures) (here (le-ltb _ _ (c .if1 .taken)))
+
+returns-2 : tie.Need-returns-2
+unfolding ruleClauses
+returns-2 c = fails-at (ruleClauses (kindsOnly (c .before .before .before .before .before .before .before .args .kinds .now))) (c .before .before .before .before .rule-at .ensures) (later (here (lt-leb (c .before .before .before .before .rule-at .result .m) (c .before .before .before .before .rule-at .result .n) (omega arith))))
+
+returns-3 : tie.Need-returns-3
+unfolding ruleClauses
+returns-3 c = fails-at (ruleClauses (kindsOnly (c .before .before .before .before .before .before .before .before .before .args .kinds .now))) (c .before .before .before .before .before .before .rule-at .ensures) (later (later (here (lt-leb _ _ (c .if3 .taken)))))
+
+cast-n : tie.Need-cast-n
+cast-n c = search needs
+
+conditions-fit-requires : tie.Need-conditions-fit-requires
+conditions-fit-requires c κs = search needs
+
+returns-4 : tie.Need-returns-4
+unfolding ruleClauses
+returns-4 c =
+    fails-at (ruleClauses (kindsOnly (c .before .before .before .before .before .before .before .before .before .before .before .before .before .args .kinds .now))) (c .before .before .before .before .before .before .before .before .before .before .rule-at .ensures) (later (later (later (here (sym (c .before .conditions-fit .ensures) ∙ not-true _ (c .if4 .taken))))))
+
+mul-all-zero : tie.Need-mul-all-zero
+mul-all-zero c = search needs
+
+add-all-zero : tie.Need-add-all-zero
+add-all-zero c = search needs
+
+add-all-zero-2 : tie.Need-add-all-zero-2
+add-all-zero-2 c = search needs
+
+sub-all-zero : tie.Need-sub-all-zero
+sub-all-zero c = search needs
+
+all-zero-requires : tie.Need-all-zero-requires
+all-zero-requires c κs = search needs
+
+returns-5 : tie.Need-returns-5
+unfolding ruleClauses ruleAt
+returns-5 c =
+    fails-at (ruleClauses (kindsOnly (c .before .before .before .before .before .before .before .before .before .before .before .before .before .before .before .args .kinds .now))) (c .before .before .before .before .before .before .before .before .before .before .before .before .rule-at .ensures)
+    (later (later (later (later (here (
+    ap (λ (x : Rule). all isZero (drop (c .before .before .before .before .before .before .before .before .before .before .before .before .rule-at .result .n) (x .conditions))) (c .before .before .before .before .before .before .before .before .before .before .before .before .rule-at .ensures)
+    ∙ ap (all isZero) (past-three (c .before .before .before .before .before .before .before .before .before .before .before .before .before .before .before .args .rules .now) (c .before .before .before .before .before .before .before .before .before .before .before .before .before .before .before .args .i * 11) 8 (c .before .before .before .before .before .before .before .before .before .before .before .before .rule-at .result .n) (omega arith) (omega arith))
+    ∙ sym (c .before .all-zero .ensures)
+    ∙ not-true _ (c .if5 .taken)
+    ))))))
+
+returns-6 : tie.Need-returns-6
+unfolding ruleClauses ruleAt
+returns-6 c =
+    passes-at (ruleClauses (kindsOnly (c .before .before .before .before .before .before .before .before .before .before .before .before .before .before .before .args .kinds .now))) (c .before .before .before .before .before .before .before .before .before .before .before .before .rule-at .ensures) (
+      lt-ltb _ _ (c .before .before .before .before .before .before .before .before .before .before .if1 .left),
+      (
+        le-leb _ _ (c .before .before .before .before .before .before .before .before .if2 .left),
+        (
+          le-leb _ _ (c .before .before .before .before .before .before .if3 .left),
+          (
+            sym (c .before .before .before .conditions-fit .ensures) ∙ not-false _ (c .before .before .if4 .left),
+            (
+              ap (λ (x : Rule). all isZero (drop (c .before .before .before .before .before .before .before .before .before .before .before .before .rule-at .result .n) (x .conditions))) (c .before .before .before .before .before .before .before .before .before .before .before .before .rule-at .ensures)
+                  ∙ ap (all isZero) (past-three (c .before .before .before .before .before .before .before .before .before .before .before .before .before .before .before .args .rules .now) (c .before .before .before .before .before .before .before .before .before .before .before .before .before .before .before .args .i * 11) 8 (c .before .before .before .before .before .before .before .before .before .before .before .before .rule-at .result .n) (omega arith) (omega arith))
+                  ∙ sym (c .before .all-zero .ensures)
+                  ∙ not-false _ (c .if5 .left),
+              tt,
+            ),
+          ),
+        ),
+      ),
+    )
+
+pub rule-fits-spec : {M : Type 1} → statement M
+rule-fits-spec =
+    tie.close
+    (tie.spec
+    rule-at-requires
+    returns
+    returns-2
+    returns-3
+    cast-n
+    conditions-fit-requires
+    returns-4
+    mul-all-zero
+    add-all-zero
+    add-all-zero-2
+    sub-all-zero
+    all-zero-requires
+    returns-5
+    returns-6)
