@@ -87,14 +87,6 @@ pub active-now : (s : List ℕ) (k u q : ℕ) → k ≡ rowCount s → active (f
 unfolding decode firstRows
 active-now s k u q e = ap (λ (n : ℕ). active (firstRows s n) u q) e
 
-and-true : (b : Bool) → (b && true) ≡ b
-and-true true = refl
-and-true false = refl
-
--- the last of three clauses decides, where the first two are true
-pub last-of-three : (x y z : Bool) → x ≡ true → y ≡ true → z ≡ every (x ∷ y ∷ z ∷ [])
-last-of-three x y z a b = sym (ap (λ (v : Bool). v && (y && (z && true))) a ∙ ap (λ (v : Bool). v && (z && true)) b ∙ and-true z)
-
 -- a sound policy has few enough rules that a rule's number is one of 16 bits
 pub sound-rules : (rules kinds rights s : List ℕ) → Sound (lent rules kinds rights) s → length rules / 11 ≤ 512
 unfolding policyClauses policyOf

@@ -61,10 +61,13 @@ same-again : (c x y : Certificate) → T (sameCertificate c x) → T (sameCertif
 same-again c x y a b =
     let p = each (eqb (c .appointee) (x .appointee) ∷ eqb (c .kind) (x .kind) ∷ eqb (c .appointer) (x .appointer) ∷ []) a in
     let q = each (eqb (c .appointee) (y .appointee) ∷ eqb (c .kind) (y .kind) ∷ eqb (c .appointer) (y .appointer) ∷ []) b in
-    of-each (eqb (y .appointee) (x .appointee) ∷ eqb (y .kind) (x .kind) ∷ eqb (y .appointer) (x .appointer) ∷ [])
-    (subst (λ (n : ℕ). T (eqb n (x .appointee))) (eqb→eq (c .appointee) (y .appointee) (q .0)) (p .0),
-    (subst (λ (n : ℕ). T (eqb n (x .kind))) (eqb→eq (c .kind) (y .kind) (q .1 .0)) (p .1 .0),
-    (subst (λ (n : ℕ). T (eqb n (x .appointer))) (eqb→eq (c .appointer) (y .appointer) (q .1 .1 .0)) (p .1 .1 .0), tt)))
+    of-each (eqb (y .appointee) (x .appointee) ∷ eqb (y .kind) (x .kind) ∷ eqb (y .appointer) (x .appointer) ∷ []) (
+      subst (λ (n : ℕ). T (eqb n (x .appointee))) (eqb→eq (c .appointee) (y .appointee) (q .0)) (p .0),
+      (
+        subst (λ (n : ℕ). T (eqb n (x .kind))) (eqb→eq (c .kind) (y .kind) (q .1 .0)) (p .1 .0),
+        (subst (λ (n : ℕ). T (eqb n (x .appointer))) (eqb→eq (c .appointer) (y .appointer) (q .1 .1 .0)) (p .1 .1 .0), tt),
+      ),
+    )
 
 without-first : (p : Policy) (c : Certificate) (earlier l : List Certificate) → T (allOverEarlier (certificateSound p) earlier l) → T (any (sameCertificate c) l)
     → without (sameCertificate c) l ≡ take (firstPlace (sameCertificate c) l) l ++ drop (suc (firstPlace (sameCertificate c) l)) l
@@ -80,9 +83,9 @@ without-first p c earlier (x ∷ l) t a = go (sameCertificate c x) refl a (λ v.
     alone s y m =
         not-of (sameCertificate c y)
         (λ v.
-            let e = earlier-of (certificateSound p) (earlier ++ (x ∷ [])) l rest y m in
-            refute (any (sameCertificate y) ((earlier ++ (x ∷ [])) ++ e .0)) (each (certificateClauses p ((earlier ++ (x ∷ [])) ++ e .0) y) (e .3) .1 .1 .1 .0)
-            (Rattle.model.proofs.Tests.of-any (sameCertificate y) x ((earlier ++ (x ∷ [])) ++ e .0) (mathlib.Core.List.Memᴰ·append-left (e .0) (Memᴰ·append-right earlier (List·Memᴰ·head refl))) (same-again c x y s v)))
+        let e = earlier-of (certificateSound p) (earlier ++ (x ∷ [])) l rest y m in
+        refute (any (sameCertificate y) ((earlier ++ (x ∷ [])) ++ e .0)) (each (certificateClauses p ((earlier ++ (x ∷ [])) ++ e .0) y) (e .3) .1 .1 .1 .0)
+        (Rattle.model.proofs.Tests.of-any (sameCertificate y) x ((earlier ++ (x ∷ [])) ++ e .0) (mathlib.Core.List.Memᴰ·append-left (e .0) (Memᴰ·append-right earlier (List·Memᴰ·head refl))) (same-again c x y s v)))
 
     go : (b : Bool) → sameCertificate c x ≡ b → T (b || any (sameCertificate c) l) → (T (any (sameCertificate c) l) → without (sameCertificate c) l ≡ take (firstPlace (sameCertificate c) l) l ++ drop (suc (firstPlace (sameCertificate c) l)) l)
         → cond b (without (sameCertificate c) l) (x ∷ without (sameCertificate c) l) ≡ take (cond b 0 (suc (firstPlace (sameCertificate c) l))) (x ∷ l) ++ drop (suc (cond b 0 (suc (firstPlace (sameCertificate c) l)))) (x ∷ l)
@@ -109,7 +112,7 @@ some-kind rules kinds rights k l = lt→ltb k (length (policyOf (lent rules kind
 module _ (rules kinds rights s : List ℕ) (h : Sound (lent rules kinds rights) s) where
   -- the certificate c, found at j, goes and the rows fall: the numbers are the effect's
   module _ (c : Certificate) (j : ℕ) (at : j ≡ firstPlace (sameCertificate c) (decode s .certificates)) (exists : j < certificateCount s) (s′ : List ℕ) (lost : ℕ)
-           (fell : Fallen rules kinds (withCertificates (decode s) (take j (decode s .certificates) ++ drop (suc j) (decode s .certificates))) s′ lost) where
+      (fell : Fallen rules kinds (withCertificates (decode s) (take j (decode s .certificates) ++ drop (suc j) (decode s .certificates))) s′ lost) where
     it-stands : stands (decode s) c ≡ true
     it-stands = found-any (sameCertificate c) (decode s .certificates) (omega (arith, certificate-length s))
 

@@ -2,6 +2,7 @@
 use Prim.Native.Nat.{ℕ, _+_}
 use mathlib.Core.Path.{_≡_}
 use mathlib.Core.List.{List, []}
+pub use Rattle.sound.specs.Lent.{lent}
 use Rattle.model.specs.Records.{Tables, State, worldOf, withRows}
 use Rattle.model.specs.Layout.{policyOf, encode}
 use lib.ListN.{length}
@@ -12,9 +13,6 @@ use Rattle.model.specs.Calls.{Call, answer}
 use Rattle.table.specs.Entries.{without-rights}
 use Rattle.model.specs.declared.Row.{Row}
 use Rattle.model.specs.declared.Answer.{Answer}
-
-abbrev pub lent : List ℕ → List ℕ → List ℕ → Tables
-lent rules kinds rights = record { rules = rules; kinds = kinds; rights = rights }
 
 -- the call answers r and leaves the state s′: code, second number and every number of the state
 abbrev pub Answers : Tables → List ℕ → Call → Answer → List ℕ → Type 0

@@ -61,18 +61,6 @@ fn lowest_rule(rules: &[u16], kinds: &[u16], state: &[u16], user: u16, role: u16
     i
 }
 
-fn same_certificate(a: Certificate, b: Certificate) -> bool
-    ensures { λ r. ⌜ r ≡ sameCertificate a b ⌝ }
-{
-    if a.appointee != b.appointee {
-        return false;
-    }
-    if a.kind != b.kind {
-        return false;
-    }
-    a.appointer == b.appointer
-}
-
 // Where the certificate stands, or the number of certificates if it does not.
 fn find_certificate(state: &[u16], certificate: Certificate) -> usize
     requires { ⌜ Sized (now state) ⌝ }
@@ -81,7 +69,7 @@ fn find_certificate(state: &[u16], certificate: Certificate) -> usize
     let n = table::wide(state[CERTIFICATE_COUNT]);
     let mut i: usize = 0;
     while i < n {
-        if same_certificate(certificate, table::certificate_at(state, i)) {
+        if sound::same_certificate(certificate, table::certificate_at(state, i)) {
             return i;
         }
         i += 1;
@@ -89,7 +77,14 @@ fn find_certificate(state: &[u16], certificate: Certificate) -> usize
     i
 }
 
-pub fn activate(rules: &[u16], kinds: &[u16], rights: &[u16], state: &mut [u16], user: u16, role: u16) -> Answer
+pub fn activate(
+    rules: &[u16],
+    kinds: &[u16],
+    rights: &[u16],
+    state: &mut [u16],
+    user: u16,
+    role: u16,
+) -> Answer
     requires { ⌜ Sound (lent (now rules) (now kinds) (now rights)) (now state) ⌝ }
     ensures { λ r. ⌜ Answers (lent (now (rules .entry)) (now (kinds .entry)) (now (rights .entry))) (now (state .entry)) (activateCall user role) r (now (state .exit)) ⌝ }
 {
@@ -118,7 +113,15 @@ pub fn activate(rules: &[u16], kinds: &[u16], rights: &[u16], state: &mut [u16],
     }
 }
 
-pub fn appoint(rules: &[u16], kinds: &[u16], rights: &[u16], state: &mut [u16], appointer: u16, appointee: u16, kind: u16) -> Answer
+pub fn appoint(
+    rules: &[u16],
+    kinds: &[u16],
+    rights: &[u16],
+    state: &mut [u16],
+    appointer: u16,
+    appointee: u16,
+    kind: u16,
+) -> Answer
     requires { ⌜ Sound (lent (now rules) (now kinds) (now rights)) (now state) ⌝ }
     ensures { λ r. ⌜ Answers (lent (now (rules .entry)) (now (kinds .entry)) (now (rights .entry))) (now (state .entry)) (appointCall appointer appointee kind) r (now (state .exit)) ⌝ }
 {
@@ -178,7 +181,16 @@ fn may_revoke(kinds: &[u16], state: &[u16], caller: u16, kind: u16, appointer: u
     false
 }
 
-pub fn revoke(rules: &[u16], kinds: &[u16], rights: &[u16], state: &mut [u16], caller: u16, appointee: u16, kind: u16, appointer: u16) -> Answer
+pub fn revoke(
+    rules: &[u16],
+    kinds: &[u16],
+    rights: &[u16],
+    state: &mut [u16],
+    caller: u16,
+    appointee: u16,
+    kind: u16,
+    appointer: u16,
+) -> Answer
     requires { ⌜ Sound (lent (now rules) (now kinds) (now rights)) (now state) ⌝ }
     ensures { λ r. ⌜ Answers (lent (now (rules .entry)) (now (kinds .entry)) (now (rights .entry))) (now (state .entry)) (revokeCall caller appointee kind appointer) r (now (state .exit)) ⌝ }
 {
@@ -212,7 +224,15 @@ pub fn revoke(rules: &[u16], kinds: &[u16], rights: &[u16], state: &mut [u16], c
     Answer { code: 0, second }
 }
 
-pub fn withdraw(rules: &[u16], kinds: &[u16], rights: &[u16], state: &mut [u16], appointee: u16, kind: u16, appointer: u16) -> Answer
+pub fn withdraw(
+    rules: &[u16],
+    kinds: &[u16],
+    rights: &[u16],
+    state: &mut [u16],
+    appointee: u16,
+    kind: u16,
+    appointer: u16,
+) -> Answer
     requires { ⌜ Sound (lent (now rules) (now kinds) (now rights)) (now state) ⌝ }
     ensures { λ r. ⌜ Answers (lent (now (rules .entry)) (now (kinds .entry)) (now (rights .entry))) (now (state .entry)) (withdrawCall appointee kind appointer) r (now (state .exit)) ⌝ }
 {
@@ -240,7 +260,14 @@ pub fn withdraw(rules: &[u16], kinds: &[u16], rights: &[u16], state: &mut [u16],
     Answer { code: 0, second }
 }
 
-pub fn environment(rules: &[u16], kinds: &[u16], rights: &[u16], state: &mut [u16], fact: u16, value: u16) -> Answer
+pub fn environment(
+    rules: &[u16],
+    kinds: &[u16],
+    rights: &[u16],
+    state: &mut [u16],
+    fact: u16,
+    value: u16,
+) -> Answer
     requires { ⌜ Sound (lent (now rules) (now kinds) (now rights)) (now state) ⌝ }
     ensures { λ r. ⌜ Answers (lent (now (rules .entry)) (now (kinds .entry)) (now (rights .entry))) (now (state .entry)) (environmentCall fact value) r (now (state .exit)) ⌝ }
 {
@@ -317,7 +344,14 @@ fn may_invoke(rights: &[u16], state: &[u16], user: u16, privilege: u16) -> bool
     false
 }
 
-pub fn invoke(rules: &[u16], kinds: &[u16], rights: &[u16], state: &[u16], user: u16, privilege: u16) -> Answer
+pub fn invoke(
+    rules: &[u16],
+    kinds: &[u16],
+    rights: &[u16],
+    state: &[u16],
+    user: u16,
+    privilege: u16,
+) -> Answer
     requires { ⌜ Sound (lent (now rules) (now kinds) (now rights)) (now state) ⌝ }
     ensures { λ r. ⌜ Answers (lent (now (rules .entry)) (now (kinds .entry)) (now (rights .entry))) (now (state .entry)) (invokeCall user privilege) r (now (state .entry)) ⌝ }
 {

@@ -291,7 +291,7 @@ fn well_formed(state: &[u16]) -> bool
 }
 
 // A certificate is its appointee, kind and appointer.
-fn same_certificate(a: Certificate, b: Certificate) -> bool
+pub fn same_certificate(a: Certificate, b: Certificate) -> bool
     ensures { λ r. ⌜ r ≡ sameCertificate a b ⌝ }
 {
     if a.appointee != b.appointee {
