@@ -1,0 +1,68 @@
+-- Judged first: an unsound table is a refusal of every call, and what is left are sound tables.
+use Prim.Native.Nat.{ℕ, zero, suc}
+use mathlib.Core.Path.{_≡_, refl, sym, ap, _∙_, subst, subst⁻¹}
+use mathlib.Core.Bool.{Bool, true, false, not, cond}
+use mathlib.Core.Logic.{_≢_}
+use mathlib.Core.List.{List, [], _∷_}
+use native.Mathlib.Omega.{arith}
+use lib.Dec.{T, eqb, eqb→eq}
+use lib.ListN.{length, replicate, getD, length-replicate, getD-replicate}
+use lib.Seq.{ext-getD}
+use borrow.Author.Tests.{eq-eqb, ne-eqb}
+use Rattle.model.specs.Records.{Tables}
+use Rattle.model.specs.Layout.{policyOf, encode}
+use Rattle.model.specs.Sound.{soundPolicy, sound}
+use Rattle.model.specs.Outcome.{Refusal, firstCode, Course, judgedFirst}
+use Rattle.model.specs.Calls.{Call, fresh, nothing, freshOn, courseOf, answer}
+use Rattle.model.specs.Words.{Sound, FirstApplies, none, here, later}
+use Rattle.model.specs.declared.Answer.{Answer}
+use Rattle.model.proofs.Tests.{of-true, of-false}
+use Rattle.fall.specs.Writes.{Zeroed}
+use Rattle.inner.specs.Lent.{lent, Answers}
+use Rattle.inner.proofs.Codes.{refuses, accepts}
+use Rattle.calls.specs.Judgement.{judgement}
+
+-- a code given before a call's own refusals is the first that applies
+first-judged : (a b : Bool) (rs : List Refusal) (n : ℕ) → n ≢ 0 → n ≡ firstCode (record { applies = not a; code = 1 } ∷ record { applies = not b; code = 2 } ∷ []) → FirstApplies (record { applies = not a; code = 1 } ∷ record { applies = not b; code = 2 } ∷ rs) n
+first-judged true true rs n z e = absurd (z e)
+first-judged true false rs n z e = subst⁻¹ (λ (k : ℕ). FirstApplies (record { applies = false; code = 1 } ∷ record { applies = true; code = 2 } ∷ rs) k) e (later tt (here tt))
+first-judged false b rs n z e = subst⁻¹ (λ (k : ℕ). FirstApplies (record { applies = true; code = 1 } ∷ record { applies = not b; code = 2 } ∷ rs) k) e (here tt)
+
+pub unsound : (t : Tables) (s : List ℕ) (c : Call) (course : Course) → courseOf t s [] c ≡ judgedFirst t s course → (r : Answer) → r .second ≡ 0 → r .code ≢ 0 → r .code ≡ judgement t s → Answers t s c r s
+unfolding judgement judgedFirst
+unsound t s c course is r z n e =
+    refuses t s c r (r .code) n (refl, z) (subst⁻¹ (λ (x : Course). FirstApplies (x .refusals) (r .code)) is (first-judged (soundPolicy t) (sound (policyOf t) s) (course .refusals) (r .code) n e))
+
+both : (a b : Bool) → 0 ≡ firstCode (record { applies = not a; code = 1 } ∷ record { applies = not b; code = 2 } ∷ []) → T a × T b
+both true true e = (tt, tt)
+both true false e = absurd (omega arith)
+both false b e = absurd (omega arith)
+
+pub judged-sound : (t : Tables) (s : List ℕ) (n : ℕ) → n ≡ 0 → n ≡ judgement t s → Sound t s
+unfolding judgement
+judged-sound t s n z e = let p = both (soundPolicy t) (sound (policyOf t) s) (sym z ∙ e) in record { policy = p .0; state = p .1 }
+
+-- what code finds, as the judgement
+pub no-policy : (t : Tables) (s : List ℕ) → soundPolicy t ≡ false → 1 ≡ judgement t s
+unfolding judgement
+no-policy t s e = sym (ap (λ (b : Bool). cond (not b) 1 (cond (not (sound (policyOf t) s)) 2 0)) e)
+
+pub no-state : (t : Tables) (s : List ℕ) → soundPolicy t ≡ true → sound (policyOf t) s ≡ false → 2 ≡ judgement t s
+unfolding judgement
+no-state t s e f = sym (λ i. cond (not (e i)) 1 (cond (not (f i)) 2 0))
+
+pub all-sound : (t : Tables) (s : List ℕ) → soundPolicy t ≡ true → sound (policyOf t) s ≡ true → 0 ≡ judgement t s
+unfolding judgement
+all-sound t s e f = sym (λ i. cond (not (e i)) 1 (cond (not (f i)) 2 0))
+
+-- ── fresh ──
+
+pub fresh-length : (s : List ℕ) (r : Answer) → r .code ≡ 2 → r .second ≡ 0 → length s ≢ 1602 → Answers (lent [] [] []) s fresh r s
+unfolding courseOf freshOn
+fresh-length s r a b n = refuses (lent [] [] []) s fresh r 2 (omega arith) (a, b) (here (of-false (eqb (length s) 1602) (ne-eqb (length s) 1602 n)))
+
+pub fresh-zeros : (s s′ : List ℕ) (r : Answer) → r .code ≡ 0 → r .second ≡ 0 → length s ≡ 1602 → Zeroed s s′ 0 1602 → Answers (lent [] [] []) s fresh r s′
+unfolding courseOf freshOn encode
+fresh-zeros s s′ r a b e z =
+    accepts (lent [] [] []) s fresh r s′ a (later (Rattle.model.proofs.Tests.not-not-of (eqb (length s) 1602) (of-true (eqb (length s) 1602) (eq-eqb (length s) 1602 e))) none) b
+    (ext-getD 0 s′ (replicate 1602 0) (z .size ∙ e ∙ sym (length-replicate {A = ℕ} 1602 0)) (λ i h. z .inside i (omega arith) (omega (arith, z .size)) ∙ sym (getD-replicate {A = ℕ} 1602 i 0 0 (omega (arith, z .size))))) refl

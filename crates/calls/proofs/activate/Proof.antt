@@ -1,0 +1,35 @@
+use mathlib.Core.Path.{refl}
+use Rattle.model.specs.Outcome.{given}
+use Rattle.model.specs.Calls.{activate, activateOn, courseOf}
+use Rattle.inner.specs.Lent.{lent}
+use Rattle.calls.proofs.Judged.{unsound, judged-sound}
+use borrow.Author.Needs.{needs}
+use Rattle.calls.proofs.activate.Statement.{statement}
+use Rattle.calls.proofs.activate.Tie as tie
+
+-- src/lib.rt:38:9
+judge-requires : tie.Need-judge-requires
+judge-requires c κs = search needs
+
+-- src/lib.rt:40:9
+same-length : tie.Need-same-length
+same-length c = search needs
+
+returns : tie.Need-returns
+unfolding courseOf
+returns c = unsound (lent (c .before .before .before .before .before .before .before .args .rules .now) (c .before .before .before .before .before .before .before .args .kinds .now) (c .before .before .before .before .before .before .before .args .rights .now)) (c .before .before .before .before .before .before .before .args .state .now) _ _ refl _ refl (c .if1 .taken) (c .before .judge .ensures)
+
+activate-requires : tie.Need-activate-requires
+activate-requires c κs = judged-sound (lent (c .before .before .before .before .before .before .before .before .args .rules .now) (c .before .before .before .before .before .before .before .before .args .kinds .now) (c .before .before .before .before .before .before .before .before .args .rights .now)) (c .before .before .before .before .before .before .before .before .args .state .now) _ (c .before .if1 .left) (c .before .before .judge .ensures)
+
+-- src/lib.rt:35:1
+same-length-2 : tie.Need-same-length-2
+same-length-2 c = search needs
+
+returns-2 : tie.Need-returns-2
+returns-2 c = c .before .before .activate .ensures
+
+pub activate-spec : {M : Type 1} → statement M
+activate-spec =
+    tie.close
+    (tie.spec judge-requires same-length returns activate-requires same-length-2 returns-2)

@@ -1,0 +1,25 @@
+use mathlib.Core.Path.{refl}
+use Rattle.model.specs.Outcome.{given}
+use Rattle.model.specs.Calls.{invoke, invokeOn, courseOf}
+use Rattle.inner.specs.Lent.{lent}
+use Rattle.calls.proofs.Judged.{unsound, judged-sound}
+use borrow.Author.Needs.{needs}
+use Rattle.calls.proofs.invoke.Statement.{statement}
+use Rattle.calls.proofs.invoke.Tie as tie
+
+-- src/lib.rt:98:9
+judge-requires : tie.Need-judge-requires
+judge-requires c κs = search needs
+
+returns : tie.Need-returns
+unfolding courseOf
+returns c = unsound (lent (c .before .before .before .before .before .before .args .rules .now) (c .before .before .before .before .before .before .args .kinds .now) (c .before .before .before .before .before .before .args .rights .now)) (c .before .before .before .before .before .before .args .state .now) _ _ refl _ refl (c .if1 .taken) (c .before .judge .ensures)
+
+invoke-requires : tie.Need-invoke-requires
+invoke-requires c κs = judged-sound (lent (c .before .before .before .before .before .before .args .rules .now) (c .before .before .before .before .before .before .args .kinds .now) (c .before .before .before .before .before .before .args .rights .now)) (c .before .before .before .before .before .before .args .state .now) _ (c .if1 .left) (c .before .judge .ensures)
+
+returns-2 : tie.Need-returns-2
+returns-2 c = c .invoke .ensures
+
+pub invoke-spec : {M : Type 1} → statement M
+invoke-spec = tie.close (tie.spec judge-requires returns invoke-requires returns-2)
