@@ -72,6 +72,14 @@ yard-refusal = refusal-changes-nothing yard midday [] (activate 20 1) (λ e. abs
 yard-first : FirstApplies (courseOf yard midday [] (activate 20 1) .refusals) (at-midday (activate 20 1) .code)
 yard-first = the-first-that-applies yard midday [] (activate 20 1)
 
+-- and no other code is the first that applies
+yard-only : (n : ℕ) → FirstApplies (courseOf yard midday [] (activate 20 1) .refusals) n → n ≡ 4
+yard-only n f = no-other-is-first (courseOf yard midday [] (activate 20 1) .refusals) n (at-midday (activate 20 1) .code) f yard-first ∙ active-already
+
+-- the state before the first call of the day
+yard-zeros : T (sound (policyOf yard) (replicate 1602 0))
+yard-zeros = zeros-are-sound (policyOf yard)
+
 -- ── the cascade ──
 
 -- the yard is closed: five roles fall, each on the one below it, and the foreman stays
