@@ -154,5 +154,5 @@ pub fn invoke(
     if code != 0 {
         return Answer { code, second: 0 };
     }
-    inner::invoke(rules, kinds, rights, state, user, privilege)
+    query::invoke(rules, kinds, rights, state, user, privilege)
 }

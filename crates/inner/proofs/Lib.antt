@@ -3,4 +3,3 @@ pub mod Codes
 pub mod Activation
 pub mod Falls
 pub mod Appointing
-pub mod Invoking

@@ -1,8 +1,7 @@
-// The calls on sound tables, for code that can show that they are sound. Each equals the model's call.
+// The calls that change a state, on sound tables, for code that can show that they are sound. Each equals the model's call.
 ghost use mathlib.Core.Path.{_≡_};
-ghost use mathlib.Core.Bool.{true, _&&_};
+ghost use mathlib.Core.Bool.{true};
 ghost use mathlib.Core.List.{[], _++_};
-ghost use lib.Dec.{eqb};
 ghost use Prim.Native.Nat.{suc, _+_, _/_, _<_, _≤_};
 ghost use lib.ListN.{length, take, drop};
 ghost use Rattle.model.specs.Lists.{any, firstPlace};
@@ -11,21 +10,17 @@ ghost use Rattle.model.specs.Records.{withCertificates};
 ghost use Rattle.model.specs.Layout.{decode, policyOf, certificateCount};
 ghost use Rattle.model.specs.Conditions.{satisfied, kindNumbered};
 ghost use Rattle.model.specs.Sound.{wellFormed, sameCertificate};
-ghost use Rattle.model.specs.Effective.{direct};
-ghost use Rattle.model.specs.Calls.{activate as activateCall, appoint as appointCall, revoke as revokeCall, withdraw as withdrawCall, environment as environmentCall, logout as logoutCall, invoke as invokeCall, allowed, mayRevoke};
+ghost use Rattle.model.specs.Calls.{activate as activateCall, appoint as appointCall, revoke as revokeCall, withdraw as withdrawCall, environment as environmentCall, logout as logoutCall, mayRevoke};
 ghost use Rattle.model.specs.Words.{Sound};
 ghost use Rattle.table.specs.Entries.{worldAt, without-rights, Sized};
 ghost use Rattle.inner.specs.Lent.{lent, Answers, Fallen};
 use model::Answer;
 use model::Certificate;
-use model::Right;
 use model::Row;
 
 const USERS: u16 = 4096;
 
 const ROLES: u16 = 256;
-
-const PRIVILEGES: u16 = 1024;
 
 const FACTS: u16 = 64;
 
@@ -37,9 +32,7 @@ const RULE_WIDTH: usize = 11;
 
 const KIND_WIDTH: usize = 7;
 
-const RIGHT_WIDTH: usize = 2;
-
-fn refused(code: u16) -> Answer
+pub fn refused(code: u16) -> Answer
     ensures { λ r. ⌜ (r .code ≡ code) × (r .second ≡ 0) ⌝ }
 {
     Answer { code, second: 0 }
@@ -291,78 +284,4 @@ pub fn logout(rules: &[u16], kinds: &[u16], rights: &[u16], state: &mut [u16], u
     }
     let second = fall::drop_user(state, user);
     Answer { code: 0, second }
-}
-
-// The right is one of the role to the privilege.
-fn right_is(right: Right, role: u16, privilege: u16) -> bool
-    ensures { λ r. ⌜ r ≡ (eqb (right .role) role && eqb (right .privilege) privilege) ⌝ }
-{
-    if right.role == role {
-        return right.privilege == privilege;
-    }
-    false
-}
-
-// The role has the privilege itself.
-pub fn has_right(rights: &[u16], role: u16, privilege: u16) -> bool
-    ensures { λ r. ⌜ r ≡ direct (policyOf (lent [] [] (now (rights .entry)))) role privilege ⌝ }
-{
-    let n = rights.len() / RIGHT_WIDTH;
-    let mut i: usize = 0;
-    while i < n {
-        if right_is(table::right_at(rights, i), role, privilege) {
-            return true;
-        }
-        i += 1;
-    }
-    false
-}
-
-// The row is the user's, and its role has the privilege.
-fn row_carries(rights: &[u16], row: Row, user: u16, privilege: u16) -> bool
-    ensures { λ r. ⌜ r ≡ (eqb (row .user) user && direct (policyOf (lent [] [] (now (rights .entry)))) (row .role) privilege) ⌝ }
-{
-    if row.user == user {
-        return has_right(rights, row.role, privilege);
-    }
-    false
-}
-
-// Some active role of the user has the privilege.
-fn may_invoke(rights: &[u16], state: &[u16], user: u16, privilege: u16) -> bool
-    requires { ⌜ Sized (now state) ⌝ }
-    ensures { λ r. ⌜ r ≡ allowed (policyOf (lent [] [] (now (rights .entry)))) (decode (now (state .entry)) .rows) user privilege ⌝ }
-{
-    let n = table::wide(state[ROW_COUNT]);
-    let mut i: usize = 0;
-    while i < n {
-        if row_carries(rights, table::row_at(state, i), user, privilege) {
-            return true;
-        }
-        i += 1;
-    }
-    false
-}
-
-pub fn invoke(
-    rules: &[u16],
-    kinds: &[u16],
-    rights: &[u16],
-    state: &[u16],
-    user: u16,
-    privilege: u16,
-) -> Answer
-    requires { ⌜ Sound (lent (now rules) (now kinds) (now rights)) (now state) ⌝ }
-    ensures { λ r. ⌜ Answers (lent (now (rules .entry)) (now (kinds .entry)) (now (rights .entry))) (now (state .entry)) (invokeCall user privilege) r (now (state .entry)) ⌝ }
-{
-    if USERS <= user {
-        return refused(3);
-    }
-    if PRIVILEGES <= privilege {
-        return refused(3);
-    }
-    if may_invoke(rights, state, user, privilege) {
-        return Answer { code: 0, second: 1 };
-    }
-    refused(0)
 }

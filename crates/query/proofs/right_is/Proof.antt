@@ -1,6 +1,6 @@
 use borrow.Author.Tests.{eq-eqb, ne-eqb}
-use Rattle.inner.proofs.right_is.Statement.{statement}
-use Rattle.inner.proofs.right_is.Tie as tie
+use Rattle.query.proofs.right_is.Statement.{statement}
+use Rattle.query.proofs.right_is.Tie as tie
 
 returns : tie.Need-returns
 returns c = simp (eq-eqb _ _ (c .before .if1 .taken))

@@ -3,11 +3,11 @@ use mathlib.Core.Bool.{true, false}
 use mathlib.Core.List.{[], _∷_}
 use borrow.Author.Tests.{le-ltb}
 use Rattle.model.specs.Calls.{isUser, isPrivilege}
 use Rattle.inner.proofs.Codes.{sound-sized, out-of-range}
-use Rattle.inner.proofs.Invoking.{invoke-out, invoke-told}
+use Rattle.query.proofs.Invoking.{invoke-out, invoke-told}
 use borrow.Author.Needs.{needs}
-use Rattle.inner.proofs.invoke.Statement.{statement}
-use Rattle.inner.proofs.invoke.Tie as tie
+use Rattle.query.proofs.invoke.Statement.{statement}
+use Rattle.query.proofs.invoke.Tie as tie
 
 -- src/lib.rt:325:9
 refused-requires : tie.Need-refused-requires

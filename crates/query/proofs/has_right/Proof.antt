@@ -12,8 +12,8 @@ use Rattle.model.specs.declared.Right.{Right}
 use Rattle.table.specs.Entries.{entries, rightAt}
 use Rattle.table.proofs.Entries.{any-next, any-hit}
 use borrow.Author.Needs.{needs}
-use Rattle.inner.proofs.has_right.Statement.{statement}
-use Rattle.inner.proofs.has_right.Tie as tie
+use Rattle.query.proofs.has_right.Statement.{statement}
+use Rattle.query.proofs.has_right.Tie as tie
 
 abbrev test : ℕ → ℕ → Right → Bool
 test q x r = eqb (r .role) q && eqb (r .privilege) x

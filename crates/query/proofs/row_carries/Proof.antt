@@ -3,11 +3,11 @@ use mathlib.Core.Bool.{Bool, _&&_}
 use borrow.Author.Tests.{eq-eqb, ne-eqb}
 use Rattle.model.specs.Layout.{policyOf}
 use Rattle.model.specs.Effective.{direct}
 use Rattle.inner.specs.Lent.{lent}
 use mathlib.Core.List.{[]}
 use borrow.Author.Needs.{needs}
-use Rattle.inner.proofs.row_carries.Statement.{statement}
-use Rattle.inner.proofs.row_carries.Tie as tie
+use Rattle.query.proofs.row_carries.Statement.{statement}
+use Rattle.query.proofs.row_carries.Tie as tie
 
 -- src/lib.rt:299:9
 has-right-requires : tie.Need-has-right-requires

@@ -12,10 +12,10 @@ use Rattle.model.specs.Calls.{allowed}
 use Rattle.model.specs.declared.Row.{Row}
 use Rattle.table.specs.Entries.{entries, rowAt}
 use Rattle.table.proofs.Entries.{any-next, any-hit}
 use Rattle.inner.specs.Lent.{lent}
 use borrow.Author.Needs.{needs}
-use Rattle.inner.proofs.may_invoke.Statement.{statement}
-use Rattle.inner.proofs.may_invoke.Tie as tie
+use Rattle.query.proofs.may_invoke.Statement.{statement}
+use Rattle.query.proofs.may_invoke.Tie as tie
 
 abbrev test : List ℕ → ℕ → ℕ → Row → Bool
 test rights u x r = eqb (r .user) u && direct (policyOf (lent [] [] rights)) (r .role) x
