@@ -108,7 +108,7 @@ module _ (p : Policy) (u x : ℕ) where
 
 -- ── sound rows are stacked ──
 
-reverse-last : (rows : List Row) (r : Row) → reverse (rows ++ (r ∷ [])) ≡ r ∷ reverse rows
+pub reverse-last : (rows : List Row) (r : Row) → reverse (rows ++ (r ∷ [])) ≡ r ∷ reverse rows
 reverse-last rows r =
     ap reverse (ap (λ (l : List Row). l ++ (r ∷ [])) (sym (reverse-reverse rows)) ∙ sym (reverse-cons r (reverse rows))) ∙ reverse-reverse (r ∷ reverse rows)
 

@@ -1,1 +1,3 @@
 pub mod Invoking
+pub mod Reaching
+pub mod Telling

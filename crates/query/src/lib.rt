@@ -2,18 +2,25 @@
 ghost use mathlib.Core.Path.{_≡_};
 ghost use mathlib.Core.Bool.{_&&_};
 ghost use mathlib.Core.List.{[]};
+ghost use Prim.Native.Nat.{_<_, _≤_};
 ghost use lib.Dec.{eqb};
+ghost use lib.ListN.{length, take};
+ghost use Rattle.model.specs.Limits.{stateSize, mostRows};
 ghost use Rattle.model.specs.Layout.{decode, policyOf};
+ghost use Rattle.model.specs.Conditions.{meant, rolesAsked};
 ghost use Rattle.model.specs.Effective.{direct};
-ghost use Rattle.model.specs.Calls.{invoke as invokeCall, allowed};
+ghost use Rattle.model.specs.Calls.{invoke as invokeCall, effective as effectiveCall, allowed};
 ghost use Rattle.model.specs.Words.{Sound};
-ghost use Rattle.table.specs.Entries.{Sized};
+ghost use Rattle.table.specs.Entries.{Sized, without-rights};
 ghost use Rattle.inner.specs.Lent.{lent, Answers};
+ghost use Rattle.query.specs.Reached.{newest, conditionReaches, rowReaches, Clean};
 use model::Answer;
 use model::Right;
 use model::Row;
 
 const USERS: u16 = 4096;
+
+const ROLES: u16 = 256;
 
 const PRIVILEGES: u16 = 1024;
 
@@ -90,6 +97,171 @@ pub fn invoke(
         return inner::refused(3);
     }
     if may_invoke(rights, state, user, privilege) {
+        return Answer { code: 0, second: 1 };
+    }
+    inner::refused(0)
+}
+
+// The roles that a condition asks for: the first `count` of four.
+pub struct Asked {
+    pub count: usize,
+    pub roles: [u16; 4],
+}
+
+// A role asks for itself, a kind for its prerequisite roles, a fact for none.
+fn roles_asked(kinds: &[u16], condition: u16) -> Asked
+    ensures few { λ r. ⌜ r .count ≤ 4 ⌝ }
+    ensures asked { λ r. ⌜ take (r .count) (r .roles) ≡ rolesAsked (policyOf (without-rights [] (now (kinds .entry)))) (meant condition) ⌝ }
+{
+    if condition < 256 {
+        return Asked {
+            count: 1,
+            roles: [condition, 0, 0, 0],
+        };
+    }
+    if condition < 384 {
+        let row = table::kind_numbered(kinds, table::wide(condition - 256));
+        let roles = row.prerequisites;
+        let count = table::least(table::wide(row.s), 4);
+        return Asked { count, roles };
+    }
+    Asked {
+        count: 0,
+        roles: [0, 0, 0, 0],
+    }
+}
+
+// The newest of the first k rows in which the user is active in the role: one more than its place, or 0 where there is none.
+fn newest_row(state: &[u16], k: usize, user: u16, role: u16) -> usize
+    requires { ⌜ (length (now state) ≡ stateSize) × (k ≤ mostRows) ⌝ }
+    ensures { λ r. ⌜ r ≡ newest (now (state .entry)) user role k ⌝ }
+{
+    let mut i = k;
+    while 0 < i {
+        if table::row_is(table::row_at(state, i - 1), user, role) {
+            return i;
+        }
+        i -= 1;
+    }
+    0
+}
+
+// Row k carries the privilege. Rows found not to carry it are marked and not asked again: a rule may name one role eight times.
+fn row_reaches(
+    rules: &[u16],
+    kinds: &[u16],
+    rights: &[u16],
+    state: &[u16],
+    seen: &mut [u16],
+    k: usize,
+    user: u16,
+    privilege: u16,
+) -> bool
+    requires { ⌜ (length (now state) ≡ stateSize) × (k < mostRows) × (length (now seen) ≡ mostRows) × Clean (lent (now rules) (now kinds) (now rights)) (now state) user privilege (now seen) ⌝ }
+    ensures answer { λ r. ⌜ r ≡ rowReaches (lent (now (rules .entry)) (now (kinds .entry)) (now (rights .entry))) (now (state .entry)) user privilege k ⌝ }
+    ensures clean { λ r. ⌜ Clean (lent (now (rules .entry)) (now (kinds .entry)) (now (rights .entry))) (now (state .entry)) user privilege (now (seen .exit)) ⌝ }
+{
+    if seen[k] == 1 {
+        return false;
+    }
+    let row = table::row_at(state, k);
+    if has_right(rights, row.role, privilege) {
+        return true;
+    }
+    let rule = table::rule_numbered(rules, table::wide(row.rule));
+    let conditions = rule.conditions;
+    let m = table::least(table::wide(rule.m), 8);
+    let mut i: usize = 0;
+    while i < m {
+        let condition = conditions[i];
+        i += 1;
+        if condition_reaches(
+            rules,
+            kinds,
+            rights,
+            state,
+            seen,
+            k,
+            user,
+            privilege,
+            condition,
+        ) {
+            return true;
+        }
+    }
+    seen[k] = 1;
+    false
+}
+
+// Some role that the condition asks for carries the privilege, in the first k rows.
+fn condition_reaches(
+    rules: &[u16],
+    kinds: &[u16],
+    rights: &[u16],
+    state: &[u16],
+    seen: &mut [u16],
+    k: usize,
+    user: u16,
+    privilege: u16,
+    condition: u16,
+) -> bool
+    requires { ⌜ (length (now state) ≡ stateSize) × (k < mostRows) × (length (now seen) ≡ mostRows) × Clean (lent (now rules) (now kinds) (now rights)) (now state) user privilege (now seen) ⌝ }
+    ensures answer { λ r. ⌜ r ≡ conditionReaches (lent (now (rules .entry)) (now (kinds .entry)) (now (rights .entry))) (now (state .entry)) user privilege k condition ⌝ }
+    ensures clean { λ r. ⌜ Clean (lent (now (rules .entry)) (now (kinds .entry)) (now (rights .entry))) (now (state .entry)) user privilege (now (seen .exit)) ⌝ }
+{
+    let asked = roles_asked(kinds, condition);
+    let roles = asked.roles;
+    let n = asked.count;
+    let mut j: usize = 0;
+    while j < n {
+        let p = newest_row(state, k, user, roles[j]);
+        j += 1;
+        if p == 0 {
+            continue;
+        }
+        if row_reaches(rules, kinds, rights, state, seen, p - 1, user, privilege) {
+            return true;
+        }
+    }
+    false
+}
+
+pub fn effective(
+    rules: &[u16],
+    kinds: &[u16],
+    rights: &[u16],
+    state: &[u16],
+    user: u16,
+    role: u16,
+    privilege: u16,
+) -> Answer
+    requires { ⌜ Sound (lent (now rules) (now kinds) (now rights)) (now state) ⌝ }
+    ensures { λ r. ⌜ Answers (lent (now (rules .entry)) (now (kinds .entry)) (now (rights .entry))) (now (state .entry)) (effectiveCall user role privilege) r (now (state .entry)) ⌝ }
+{
+    if USERS <= user {
+        return inner::refused(3);
+    }
+    if ROLES <= role {
+        return inner::refused(3);
+    }
+    if PRIVILEGES <= privilege {
+        return inner::refused(3);
+    }
+    let p = newest_row(state, table::wide(state[ROW_COUNT]), user, role);
+    if p == 0 {
+        return inner::refused(12);
+    }
+    let mut seen = [0u16; 256];
+    if row_reaches(
+        rules,
+        kinds,
+        rights,
+        state,
+        &mut seen,
+        p - 1,
+        user,
+        privilege,
+    ) {
         return Answer { code: 0, second: 1 };
     }
     inner::refused(0)

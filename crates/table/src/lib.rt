@@ -43,7 +43,7 @@ pub fn wide(x: u16) -> usize
     x as usize
 }
 
-fn least(a: usize, b: usize) -> usize
+pub fn least(a: usize, b: usize) -> usize
     ensures { λ r. ⌜ r ≡ min a b ⌝ }
 {
     if a < b { a } else { b }
@@ -157,7 +157,7 @@ pub fn kind_numbered(kinds: &[u16], k: usize) -> Kind
 }
 
 // The row says that the user is active in the role.
-fn row_is(row: Row, user: u16, role: u16) -> bool
+pub fn row_is(row: Row, user: u16, role: u16) -> bool
     ensures { λ r. ⌜ r ≡ isRow user role row ⌝ }
 {
     if row.user == user {

@@ -1,0 +1,316 @@
+-- Two functions that call each other: a row asks its conditions about itself, a condition asks rows before it. So the place falls.
+use Prim.Native.Nat.{ℕ, _+_, _-_, _*_, _≤_, _<_}
+use mathlib.Core.Path.{_≡_, refl, sym, ap, _∙_}
+use mathlib.Core.Bool.{false}
+use mathlib.Core.List.{[]}
+use native.Mathlib.Omega.{arith}
+use lib.ListN.{length, take, getD, length-set}
+use Rattle.model.specs.Lists.{any}
+use Rattle.model.specs.Layout.{policyOf}
+use Rattle.model.specs.Conditions.{ruleNumbered}
+use Rattle.table.specs.Entries.{without-rights}
+use Rattle.inner.specs.Lent.{lent}
+use Rattle.query.specs.Reached.{reachedIn, conditionReaches, rowReaches, Clean}
+use Rattle.query.proofs.Reaching.{any-take-next, newest-within, reached-none, reached-at, clean-set, row-own, row-hit, row-none, condition-hit, condition-none}
+use borrow.Author.Needs.{needs}
+use borrow.Fn.Kinds.{In}
+use borrow.Fn.PlainCycle.{Measures, is, falls, and}
+use Rattle.query.proofs.condition_reaches.Reads as condition-reaches
+use Rattle.query.proofs.condition_reaches.Kinds as condition-reaches-kinds
+use Rattle.query.proofs.+condition_reaches+row_reaches.Lts-condition_reaches as condition-reaches-lts
+use Rattle.query.proofs.row_reaches.Reads as row-reaches
+use Rattle.query.proofs.row_reaches.Kinds as row-reaches-kinds
+use Rattle.query.proofs.+condition_reaches+row_reaches.Lts-row_reaches as row-reaches-lts
+use Rattle.query.proofs.has_right.Reads as has-right-reads
+use Rattle.query.proofs.newest_row.Reads as newest-row-reads
+use Rattle.query.proofs.roles_asked.Reads as roles-asked-reads
+use Rattle.table.proofs.least.Reads as least-reads
+use Rattle.table.proofs.row_at.Reads as row-at-reads
+use Rattle.table.proofs.rule_numbered.Reads as rule-numbered-reads
+use Rattle.table.proofs.wide.Reads as wide-reads
+use Rattle.query.proofs.+condition_reaches+row_reaches.{statement}
+use Rattle.query.proofs.+condition_reaches+row_reaches.Tie.{close}
+
+abbrev μ-condition-reaches : Measures 5 condition-reaches-kinds.ps ℕ
+μ-condition-reaches κs a = a .1 .1 .1 .1 .1 .0 * 2
+
+abbrev μ-row-reaches : Measures 5 row-reaches-kinds.ps ℕ
+μ-row-reaches κs a = a .1 .1 .1 .1 .1 .0 * 2 + 1
+
+abbrev condition-reaches-at : ℕ → In 5 condition-reaches-kinds.ps
+condition-reaches-at t =
+    and
+    5
+    condition-reaches-kinds.ps
+    (is 5 condition-reaches-kinds.ps μ-condition-reaches t)
+    condition-reaches.Pre
+
+abbrev condition-reaches-below : ℕ → In 5 condition-reaches-kinds.ps
+condition-reaches-below t =
+    and
+    5
+    condition-reaches-kinds.ps
+    (falls 5 condition-reaches-kinds.ps _<_ μ-condition-reaches t)
+    condition-reaches.Pre
+
+abbrev row-reaches-at : ℕ → In 5 row-reaches-kinds.ps
+row-reaches-at t =
+    and 5 row-reaches-kinds.ps (is 5 row-reaches-kinds.ps μ-row-reaches t) row-reaches.Pre
+
+abbrev row-reaches-below : ℕ → In 5 row-reaches-kinds.ps
+row-reaches-below t =
+    and 5 row-reaches-kinds.ps (falls 5 row-reaches-kinds.ps _<_ μ-row-reaches t) row-reaches.Pre
+
+-- what the calls ask and say
+abbrev calls-condition-reaches : ℕ → condition-reaches-lts.Claims
+calls-condition-reaches t = (roles-asked-reads.Asked, roles-asked-reads.Learnt, newest-row-reads.Asked, newest-row-reads.Learnt, row-reaches-below t, row-reaches.Post)
+
+abbrev calls-row-reaches : ℕ → row-reaches-lts.Claims
+calls-row-reaches t = (row-at-reads.Asked, row-at-reads.Learnt, has-right-reads.Asked, has-right-reads.Learnt, wide-reads.Asked, wide-reads.Learnt, rule-numbered-reads.Asked, rule-numbered-reads.Learnt, least-reads.Asked, least-reads.Learnt, condition-reaches-below t, condition-reaches.Post)
+
+abbrev condition-reaches-Inv-loop : condition-reaches-lts.InvT-loop
+condition-reaches-Inv-loop rules kinds rights state seen₀ k user privilege condition roles n j₀ seen j = (j ≤ n) × (length seen ≡ 256) × Clean (lent rules kinds rights) state user privilege seen × (any (reachedIn (lent rules kinds rights) state user privilege k) (take j roles) ≡ false)
+
+abbrev condition-reaches-μ-loop : condition-reaches-lts.MeasureT-loop
+condition-reaches-μ-loop rules kinds rights state seen₀ k user privilege condition roles n j₀ seen j = n - j
+
+condition-reaches-roles-asked-requires : (t : ℕ) → condition-reaches-lts.Need-roles-asked-requires (calls-condition-reaches t)
+    (condition-reaches-at t)
+    condition-reaches.Post
+    condition-reaches-Inv-loop
+    condition-reaches-μ-loop
+condition-reaches-roles-asked-requires t c κs = search needs
+
+condition-reaches-loop-holds : (t : ℕ) → condition-reaches-lts.Need-loop-holds (calls-condition-reaches t)
+    (condition-reaches-at t)
+    condition-reaches.Post
+    condition-reaches-Inv-loop
+    condition-reaches-μ-loop
+condition-reaches-loop-holds t c = (omega arith, c .before .before .before .before .before .before .before .pre .1 .2, c .before .before .before .before .before .before .before .pre .1 .3, refl)
+
+condition-reaches-mul-newest-row : (t : ℕ) → condition-reaches-lts.Need-mul-newest-row (calls-condition-reaches t)
+    (condition-reaches-at t)
+    condition-reaches.Post
+    condition-reaches-Inv-loop
+    condition-reaches-μ-loop
+condition-reaches-mul-newest-row t c = search needs
+
+condition-reaches-array-read-newest-row :
+    (t : ℕ) → condition-reaches-lts.Need-array-read-newest-row (calls-condition-reaches t)
+    (condition-reaches-at t)
+    condition-reaches.Post
+    condition-reaches-Inv-loop
+    condition-reaches-μ-loop
+condition-reaches-array-read-newest-row t c = search needs
+
+condition-reaches-newest-row-requires : (t : ℕ) → condition-reaches-lts.Need-newest-row-requires (calls-condition-reaches t)
+    (condition-reaches-at t)
+    condition-reaches.Post
+    condition-reaches-Inv-loop
+    condition-reaches-μ-loop
+condition-reaches-newest-row-requires t c κs = search needs
+
+condition-reaches-add-j : (t : ℕ) → condition-reaches-lts.Need-add-j (calls-condition-reaches t)
+    (condition-reaches-at t)
+    condition-reaches.Post
+    condition-reaches-Inv-loop
+    condition-reaches-μ-loop
+condition-reaches-add-j t c = search needs
+
+condition-reaches-loop-less : (t : ℕ) → condition-reaches-lts.Need-loop-less (calls-condition-reaches t)
+    (condition-reaches-at t)
+    condition-reaches.Post
+    condition-reaches-Inv-loop
+    condition-reaches-μ-loop
+condition-reaches-loop-less t c = search needs
+
+condition-reaches-loop-again : (t : ℕ) → condition-reaches-lts.Need-loop-again (calls-condition-reaches t)
+    (condition-reaches-at t)
+    condition-reaches.Post
+    condition-reaches-Inv-loop
+    condition-reaches-μ-loop
+condition-reaches-loop-again t c = (omega arith, c .before .before .before .loop .inv .1, c .before .before .before .loop .inv .2, any-take-next (reachedIn (lent (c .before .before .before .before .before .before .before .before .before .before .before .args .rules .now) (c .before .before .before .before .before .before .before .before .before .before .before .args .kinds .now) (c .before .before .before .before .before .before .before .before .before .before .before .args .rights .now)) (c .before .before .before .before .before .before .before .before .before .before .before .args .state .now) (c .before .before .before .before .before .before .before .before .before .before .before .args .user) (c .before .before .before .before .before .before .before .before .before .before .before .args .privilege) (c .before .before .before .before .before .before .before .before .before .before .before .args .k)) (c .before .before .before .before .before .roles-asked .result .roles) 0 (c .before .before .before .loop .j) (let z : length (c .before .before .before .before .before .roles-asked .result .roles) ≡ 4 = search needs in omega (arith, z, c .before .before .before .before .before .roles-asked .ensures .0)) (c .before .before .before .loop .inv .3) (reached-none (lent (c .before .before .before .before .before .before .before .before .before .before .before .args .rules .now) (c .before .before .before .before .before .before .before .before .before .before .before .args .kinds .now) (c .before .before .before .before .before .before .before .before .before .before .before .args .rights .now)) (c .before .before .before .before .before .before .before .before .before .before .before .args .state .now) (c .before .before .before .before .before .before .before .before .before .before .before .args .user) (c .before .before .before .before .before .before .before .before .before .before .before .args .privilege) (c .before .before .before .before .before .before .before .before .before .before .before .args .k) _ (sym (c .before .newest-row .ensures) ∙ c .if1 .taken)))
+
+condition-reaches-sub-row-reaches : (t : ℕ) → condition-reaches-lts.Need-sub-row-reaches (calls-condition-reaches t)
+    (condition-reaches-at t)
+    condition-reaches.Post
+    condition-reaches-Inv-loop
+    condition-reaches-μ-loop
+condition-reaches-sub-row-reaches t c = search needs
+
+condition-reaches-row-reaches-requires : (t : ℕ) → condition-reaches-lts.Need-row-reaches-requires (calls-condition-reaches t)
+    (condition-reaches-at t)
+    condition-reaches.Post
+    condition-reaches-Inv-loop
+    condition-reaches-μ-loop
+condition-reaches-row-reaches-requires t c κs = let l = newest-within (c .before .before .before .before .before .before .before .before .before .before .before .before .args .state .now) (c .before .before .before .before .before .before .before .before .before .before .before .before .args .user) (getD (c .before .before .before .before .before .before .roles-asked .result .roles) (c .before .before .before .before .loop .j) 0) (c .before .before .before .before .before .before .before .before .before .before .before .before .args .k) in (omega (arith, l, c .before .before .newest-row .ensures, c .before .if1 .left, c .before .before .before .before .before .before .before .before .before .before .before .before .pre .0), (omega arith, omega (arith, l, c .before .before .newest-row .ensures), c .before .before .before .before .loop .inv .1, c .before .before .before .before .loop .inv .2))
+
+condition-reaches-same-length : (t : ℕ) → condition-reaches-lts.Need-same-length (calls-condition-reaches t)
+    (condition-reaches-at t)
+    condition-reaches.Post
+    condition-reaches-Inv-loop
+    condition-reaches-μ-loop
+condition-reaches-same-length t c = c .before .before .before .row-reaches .kept .1 .1 .1 .1 .0 ∙ c .before .before .before .before .before .before .before .before .loop .inv .1 ∙ sym (c .before .before .before .before .before .before .before .before .before .before .before .before .before .before .before .before .pre .1 .2)
+
+condition-reaches-returns : (t : ℕ) → condition-reaches-lts.Need-returns (calls-condition-reaches t)
+    (condition-reaches-at t)
+    condition-reaches.Post
+    condition-reaches-Inv-loop
+    condition-reaches-μ-loop
+condition-reaches-returns t c = (condition-hit (c .before .before .before .before .before .before .before .before .before .before .before .before .before .before .before .before .args .rules .now) (c .before .before .before .before .before .before .before .before .before .before .before .before .before .before .before .before .args .kinds .now) (c .before .before .before .before .before .before .before .before .before .before .before .before .before .before .before .before .args .rights .now) (c .before .before .before .before .before .before .before .before .before .before .before .before .before .before .before .before .args .state .now) (c .before .before .before .before .before .before .before .before .before .before .before .before .before .before .before .before .args .user) (c .before .before .before .before .before .before .before .before .before .before .before .before .before .before .before .before .args .privilege) (c .before .before .before .before .before .before .before .before .before .before .before .before .before .before .before .before .args .k) (c .before .before .before .before .before .before .before .before .before .before .roles-asked .result .count) (c .before .before .before .before .before .before .before .before .before .before .before .before .before .before .before .before .args .condition) (c .before .before .before .before .before .before .before .before .loop .j) (c .before .before .before .before .before .before .newest-row .result) (c .before .before .before .before .before .before .before .before .before .before .roles-asked .result .roles) (c .before .before .before .before .before .before .before .before .before .before .roles-asked .ensures .1) (search needs) (c .before .before .before .before .before .before .before .before .before .before .roles-asked .ensures .0) (c .before .before .before .before .before .before .before .loop-test .taken) (c .before .before .before .before .before .before .newest-row .ensures) (c .before .before .before .before .before .if1 .left) (sym (c .if2 .taken) ∙ c .before .before .before .row-reaches .ensures .0), c .before .before .before .row-reaches .ensures .1)
+
+condition-reaches-loop-less-2 : (t : ℕ) → condition-reaches-lts.Need-loop-less-2 (calls-condition-reaches t)
+    (condition-reaches-at t)
+    condition-reaches.Post
+    condition-reaches-Inv-loop
+    condition-reaches-μ-loop
+condition-reaches-loop-less-2 t c = search needs
+
+condition-reaches-loop-again-2 : (t : ℕ) → condition-reaches-lts.Need-loop-again-2 (calls-condition-reaches t)
+    (condition-reaches-at t)
+    condition-reaches.Post
+    condition-reaches-Inv-loop
+    condition-reaches-μ-loop
+condition-reaches-loop-again-2 t c = (omega arith, c .before .before .before .row-reaches .kept .1 .1 .1 .1 .0 ∙ c .before .before .before .before .before .before .before .before .loop .inv .1, c .before .before .before .row-reaches .ensures .1, any-take-next (reachedIn (lent (c .before .before .before .before .before .before .before .before .before .before .before .before .before .before .before .before .args .rules .now) (c .before .before .before .before .before .before .before .before .before .before .before .before .before .before .before .before .args .kinds .now) (c .before .before .before .before .before .before .before .before .before .before .before .before .before .before .before .before .args .rights .now)) (c .before .before .before .before .before .before .before .before .before .before .before .before .before .before .before .before .args .state .now) (c .before .before .before .before .before .before .before .before .before .before .before .before .before .before .before .before .args .user) (c .before .before .before .before .before .before .before .before .before .before .before .before .before .before .before .before .args .privilege) (c .before .before .before .before .before .before .before .before .before .before .before .before .before .before .before .before .args .k)) (c .before .before .before .before .before .before .before .before .before .before .roles-asked .result .roles) 0 (c .before .before .before .before .before .before .before .before .loop .j) (let z : length (c .before .before .before .before .before .before .before .before .before .before .roles-asked .result .roles) ≡ 4 = search needs in omega (arith, z, c .before .before .before .before .before .before .before .before .before .before .roles-asked .ensures .0)) (c .before .before .before .before .before .before .before .before .loop .inv .3) (reached-at (lent (c .before .before .before .before .before .before .before .before .before .before .before .before .before .before .before .before .args .rules .now) (c .before .before .before .before .before .before .before .before .before .before .before .before .before .before .before .before .args .kinds .now) (c .before .before .before .before .before .before .before .before .before .before .before .before .before .before .before .before .args .rights .now)) (c .before .before .before .before .before .before .before .before .before .before .before .before .before .before .before .before .args .state .now) (c .before .before .before .before .before .before .before .before .before .before .before .before .before .before .before .before .args .user) (c .before .before .before .before .before .before .before .before .before .before .before .before .before .before .before .before .args .privilege) (c .before .before .before .before .before .before .before .before .before .before .before .before .before .before .before .before .args .k) _ _ (c .before .before .before .before .before .before .newest-row .ensures) (c .before .before .before .before .before .if1 .left) ∙ sym (c .before .before .before .row-reaches .ensures .0) ∙ c .if2 .left))
+
+condition-reaches-same-length-2 : (t : ℕ) → condition-reaches-lts.Need-same-length-2 (calls-condition-reaches t)
+    (condition-reaches-at t)
+    condition-reaches.Post
+    condition-reaches-Inv-loop
+    condition-reaches-μ-loop
+condition-reaches-same-length-2 t c = c .before .loop .inv .1 ∙ sym (c .before .before .before .before .before .before .before .before .before .pre .1 .2)
+
+condition-reaches-returns-2 : (t : ℕ) → condition-reaches-lts.Need-returns-2 (calls-condition-reaches t)
+    (condition-reaches-at t)
+    condition-reaches.Post
+    condition-reaches-Inv-loop
+    condition-reaches-μ-loop
+condition-reaches-returns-2 t c = (condition-none (c .before .before .before .before .before .before .before .before .before .args .rules .now) (c .before .before .before .before .before .before .before .before .before .args .kinds .now) (c .before .before .before .before .before .before .before .before .before .args .rights .now) (c .before .before .before .before .before .before .before .before .before .args .state .now) (c .before .before .before .before .before .before .before .before .before .args .user) (c .before .before .before .before .before .before .before .before .before .args .privilege) (c .before .before .before .before .before .before .before .before .before .args .k) (c .before .before .before .roles-asked .result .count) (c .before .before .before .before .before .before .before .before .before .args .condition) (c .before .loop .j) (c .before .before .before .roles-asked .result .roles) (c .before .before .before .roles-asked .ensures .1) (c .before .loop .inv .0) (omega arith) (c .before .loop .inv .3), c .before .loop .inv .2)
+
+abbrev row-reaches-Inv-loop : row-reaches-lts.InvT-loop
+row-reaches-Inv-loop rules kinds rights state seen₀ k user privilege conditions m i₀ seen i = (i ≤ m) × (length seen ≡ 256) × Clean (lent rules kinds rights) state user privilege seen × (any (conditionReaches (lent rules kinds rights) state user privilege k) (take i conditions) ≡ false)
+
+abbrev row-reaches-μ-loop : row-reaches-lts.MeasureT-loop
+row-reaches-μ-loop rules kinds rights state seen₀ k user privilege conditions m i₀ seen i = m - i
+
+row-reaches-mul-if1 : (t : ℕ) → row-reaches-lts.Need-mul-if1 (calls-row-reaches t) (row-reaches-at t) row-reaches.Post row-reaches-Inv-loop row-reaches-μ-loop
+row-reaches-mul-if1 t c = search needs
+
+row-reaches-slice-read-if1 : (t : ℕ) → row-reaches-lts.Need-slice-read-if1 (calls-row-reaches t) (row-reaches-at t) row-reaches.Post row-reaches-Inv-loop row-reaches-μ-loop
+row-reaches-slice-read-if1 t c = search needs
+
+row-reaches-returns : (t : ℕ) → row-reaches-lts.Need-returns (calls-row-reaches t) (row-reaches-at t) row-reaches.Post row-reaches-Inv-loop row-reaches-μ-loop
+unfolding Clean
+row-reaches-returns t c = (sym (c .before .before .before .before .before .before .before .pre .1 .3 _ (c .if1 .taken)), c .before .before .before .before .before .before .before .pre .1 .3)
+
+row-reaches-row-at-requires : (t : ℕ) → row-reaches-lts.Need-row-at-requires (calls-row-reaches t) (row-reaches-at t) row-reaches.Post row-reaches-Inv-loop row-reaches-μ-loop
+row-reaches-row-at-requires t c κs = search needs
+
+row-reaches-has-right-requires : (t : ℕ) → row-reaches-lts.Need-has-right-requires (calls-row-reaches t) (row-reaches-at t) row-reaches.Post row-reaches-Inv-loop row-reaches-μ-loop
+row-reaches-has-right-requires t c κs = search needs
+
+row-reaches-returns-2 : (t : ℕ) → row-reaches-lts.Need-returns-2 (calls-row-reaches t) (row-reaches-at t) row-reaches.Post row-reaches-Inv-loop row-reaches-μ-loop
+row-reaches-returns-2 t c = (row-own (c .before .before .before .before .before .before .before .before .before .before .args .rules .now) (c .before .before .before .before .before .before .before .before .before .before .args .kinds .now) (c .before .before .before .before .before .before .before .before .before .before .args .rights .now) (c .before .before .before .before .before .before .before .before .before .before .args .state .now) (c .before .before .before .before .before .before .before .before .before .before .args .user) (c .before .before .before .before .before .before .before .before .before .before .args .privilege) (c .before .before .before .before .before .before .before .before .before .before .args .k) (c .before .before .row-at .result) (c .before .before .row-at .ensures) (sym (c .before .has-right .ensures) ∙ c .if2 .taken), c .before .before .before .before .before .before .before .before .before .before .pre .1 .3)
+
+row-reaches-wide-requires : (t : ℕ) → row-reaches-lts.Need-wide-requires (calls-row-reaches t) (row-reaches-at t) row-reaches.Post row-reaches-Inv-loop row-reaches-μ-loop
+row-reaches-wide-requires t c κs = search needs
+
+row-reaches-rule-numbered-requires : (t : ℕ) → row-reaches-lts.Need-rule-numbered-requires (calls-row-reaches t) (row-reaches-at t) row-reaches.Post row-reaches-Inv-loop row-reaches-μ-loop
+row-reaches-rule-numbered-requires t c κs = search needs
+
+row-reaches-wide-requires-2 : (t : ℕ) → row-reaches-lts.Need-wide-requires-2 (calls-row-reaches t) (row-reaches-at t) row-reaches.Post row-reaches-Inv-loop row-reaches-μ-loop
+row-reaches-wide-requires-2 t c κs = search needs
+
+row-reaches-least-requires : (t : ℕ) → row-reaches-lts.Need-least-requires (calls-row-reaches t) (row-reaches-at t) row-reaches.Post row-reaches-Inv-loop row-reaches-μ-loop
+row-reaches-least-requires t c κs = search needs
+
+row-reaches-loop-holds : (t : ℕ) → row-reaches-lts.Need-loop-holds (calls-row-reaches t) (row-reaches-at t) row-reaches.Post row-reaches-Inv-loop row-reaches-μ-loop
+row-reaches-loop-holds t c = (omega arith, c .before .before .before .before .before .before .before .before .before .before .before .before .before .before .before .pre .1 .2, c .before .before .before .before .before .before .before .before .before .before .before .before .before .before .before .pre .1 .3, refl)
+
+row-reaches-mul-condition : (t : ℕ) → row-reaches-lts.Need-mul-condition (calls-row-reaches t) (row-reaches-at t) row-reaches.Post row-reaches-Inv-loop row-reaches-μ-loop
+row-reaches-mul-condition t c = search needs
+
+row-reaches-array-read-condition : (t : ℕ) → row-reaches-lts.Need-array-read-condition (calls-row-reaches t) (row-reaches-at t) row-reaches.Post row-reaches-Inv-loop row-reaches-μ-loop
+row-reaches-array-read-condition t c = search needs
+
+row-reaches-add-i : (t : ℕ) → row-reaches-lts.Need-add-i (calls-row-reaches t) (row-reaches-at t) row-reaches.Post row-reaches-Inv-loop row-reaches-μ-loop
+row-reaches-add-i t c = search needs
+
+row-reaches-condition-reaches-requires : (t : ℕ) → row-reaches-lts.Need-condition-reaches-requires (calls-row-reaches t) (row-reaches-at t) row-reaches.Post row-reaches-Inv-loop row-reaches-μ-loop
+row-reaches-condition-reaches-requires t c κs = (omega (arith, c .before .before .before .before .before .before .before .before .before .before .before .before .before .before .before .before .before .before .pre .0), (omega arith, omega arith, c .before .before .loop .inv .1, c .before .before .loop .inv .2))
+
+row-reaches-same-length : (t : ℕ) → row-reaches-lts.Need-same-length (calls-row-reaches t) (row-reaches-at t) row-reaches.Post row-reaches-Inv-loop row-reaches-μ-loop
+row-reaches-same-length t c = c .before .before .before .condition-reaches .kept .1 .1 .1 .1 .0 ∙ c .before .before .before .before .before .before .loop .inv .1 ∙ sym (c .before .before .before .before .before .before .before .before .before .before .before .before .before .before .before .before .before .before .before .before .before .before .pre .1 .2)
+
+row-reaches-returns-3 : (t : ℕ) → row-reaches-lts.Need-returns-3 (calls-row-reaches t) (row-reaches-at t) row-reaches.Post row-reaches-Inv-loop row-reaches-μ-loop
+row-reaches-returns-3 t c = (row-hit (c .before .before .before .before .before .before .before .before .before .before .before .before .before .before .before .before .before .before .before .before .before .before .args .rules .now) (c .before .before .before .before .before .before .before .before .before .before .before .before .before .before .before .before .before .before .before .before .before .before .args .kinds .now) (c .before .before .before .before .before .before .before .before .before .before .before .before .before .before .before .before .before .before .before .before .before .before .args .rights .now) (c .before .before .before .before .before .before .before .before .before .before .before .before .before .before .before .before .before .before .before .before .before .before .args .state .now) (c .before .before .before .before .before .before .before .before .before .before .before .before .before .before .before .before .before .before .before .before .before .before .args .user) (c .before .before .before .before .before .before .before .before .before .before .before .before .before .before .before .before .before .before .before .before .before .before .args .privilege) (c .before .before .before .before .before .before .before .before .before .before .before .before .before .before .before .before .before .before .before .before .before .before .args .k) (c .before .before .before .before .before .before .before .least .result) (c .before .before .before .before .before .before .loop .i) (c .before .before .before .before .before .before .before .before .before .before .before .before .before .before .row-at .result) (c .before .before .before .before .before .before .before .before .before .before .rule-numbered .result) (c .before .before .before .before .before .before .before .before .before .before .before .before .before .before .row-at .ensures) (c .before .before .before .before .before .before .before .before .before .before .rule-numbered .ensures ∙ ap (λ (n : ℕ). ruleNumbered (policyOf (without-rights (c .before .before .before .before .before .before .before .before .before .before .before .before .before .before .before .before .before .before .before .before .before .before .args .rules .now) [])) n) (c .before .before .before .before .before .before .before .before .before .before .before .wide .ensures)) (search needs) (c .before .before .before .before .before .before .before .least .ensures ∙ ap (λ (n : ℕ). Prim.Native.Nat.min n 8) (c .before .before .before .before .before .before .before .before .wide2 .ensures)) (c .before .before .before .before .before .loop-test .taken) (sym (c .before .before .before .condition-reaches .ensures .0) ∙ c .if3 .taken), c .before .before .before .condition-reaches .ensures .1)
+
+row-reaches-loop-less : (t : ℕ) → row-reaches-lts.Need-loop-less (calls-row-reaches t) (row-reaches-at t) row-reaches.Post row-reaches-Inv-loop row-reaches-μ-loop
+row-reaches-loop-less t c = search needs
+
+row-reaches-loop-again : (t : ℕ) → row-reaches-lts.Need-loop-again (calls-row-reaches t) (row-reaches-at t) row-reaches.Post row-reaches-Inv-loop row-reaches-μ-loop
+row-reaches-loop-again t c = (omega arith, c .before .before .before .condition-reaches .kept .1 .1 .1 .1 .0 ∙ c .before .before .before .before .before .before .loop .inv .1, c .before .before .before .condition-reaches .ensures .1, any-take-next (conditionReaches (lent (c .before .before .before .before .before .before .before .before .before .before .before .before .before .before .before .before .before .before .before .before .before .before .args .rules .now) (c .before .before .before .before .before .before .before .before .before .before .before .before .before .before .before .before .before .before .before .before .before .before .args .kinds .now) (c .before .before .before .before .before .before .before .before .before .before .before .before .before .before .before .before .before .before .before .before .before .before .args .rights .now)) (c .before .before .before .before .before .before .before .before .before .before .before .before .before .before .before .before .before .before .before .before .before .before .args .state .now) (c .before .before .before .before .before .before .before .before .before .before .before .before .before .before .before .before .before .before .before .before .before .before .args .user) (c .before .before .before .before .before .before .before .before .before .before .before .before .before .before .before .before .before .before .before .before .before .before .args .privilege) (c .before .before .before .before .before .before .before .before .before .before .before .before .before .before .before .before .before .before .before .before .before .before .args .k)) (c .before .before .before .before .before .before .before .before .before .before .rule-numbered .result .conditions) 0 (c .before .before .before .before .before .before .loop .i) (let z : length (c .before .before .before .before .before .before .before .before .before .before .rule-numbered .result .conditions) ≡ 8 = search needs in omega (arith, z, c .before .before .before .before .before .before .before .least .ensures)) (c .before .before .before .before .before .before .loop .inv .3) (sym (c .before .before .before .condition-reaches .ensures .0) ∙ c .if3 .left))
+
+row-reaches-mul-seen : (t : ℕ) → row-reaches-lts.Need-mul-seen (calls-row-reaches t) (row-reaches-at t) row-reaches.Post row-reaches-Inv-loop row-reaches-μ-loop
+row-reaches-mul-seen t c = search needs
+
+row-reaches-slice-write-seen : (t : ℕ) → row-reaches-lts.Need-slice-write-seen (calls-row-reaches t) (row-reaches-at t) row-reaches.Post row-reaches-Inv-loop row-reaches-μ-loop
+row-reaches-slice-write-seen t c = search needs
+
+row-reaches-same-length-2 : (t : ℕ) → row-reaches-lts.Need-same-length-2 (calls-row-reaches t) (row-reaches-at t) row-reaches.Post row-reaches-Inv-loop row-reaches-μ-loop
+row-reaches-same-length-2 t c = simp length-set (c .before .loop .inv .1 ∙ sym (c .before .before .before .before .before .before .before .before .before .before .before .before .before .before .before .before .before .pre .1 .2))
+
+row-reaches-returns-4 : (t : ℕ) → row-reaches-lts.Need-returns-4 (calls-row-reaches t) (row-reaches-at t) row-reaches.Post row-reaches-Inv-loop row-reaches-μ-loop
+row-reaches-returns-4 t c = let e : rowReaches (lent (c .before .before .before .before .before .before .before .before .before .before .before .before .before .before .before .before .before .args .rules .now) (c .before .before .before .before .before .before .before .before .before .before .before .before .before .before .before .before .before .args .kinds .now) (c .before .before .before .before .before .before .before .before .before .before .before .before .before .before .before .before .before .args .rights .now)) (c .before .before .before .before .before .before .before .before .before .before .before .before .before .before .before .before .before .args .state .now) (c .before .before .before .before .before .before .before .before .before .before .before .before .before .before .before .before .before .args .user) (c .before .before .before .before .before .before .before .before .before .before .before .before .before .before .before .before .before .args .privilege) (c .before .before .before .before .before .before .before .before .before .before .before .before .before .before .before .before .before .args .k) ≡ false = row-none (c .before .before .before .before .before .before .before .before .before .before .before .before .before .before .before .before .before .args .rules .now) (c .before .before .before .before .before .before .before .before .before .before .before .before .before .before .before .before .before .args .kinds .now) (c .before .before .before .before .before .before .before .before .before .before .before .before .before .before .before .before .before .args .rights .now) (c .before .before .before .before .before .before .before .before .before .before .before .before .before .before .before .before .before .args .state .now) (c .before .before .before .before .before .before .before .before .before .before .before .before .before .before .before .before .before .args .user) (c .before .before .before .before .before .before .before .before .before .before .before .before .before .before .before .before .before .args .privilege) (c .before .before .before .before .before .before .before .before .before .before .before .before .before .before .before .before .before .args .k) (c .before .before .least .result) (c .before .loop .i) (c .before .before .before .before .before .before .before .before .before .row-at .result) (c .before .before .before .before .before .rule-numbered .result) (c .before .before .before .before .before .before .before .before .before .row-at .ensures) (c .before .before .before .before .before .rule-numbered .ensures ∙ ap (λ (n : ℕ). ruleNumbered (policyOf (without-rights (c .before .before .before .before .before .before .before .before .before .before .before .before .before .before .before .before .before .args .rules .now) [])) n) (c .before .before .before .before .before .before .wide .ensures)) (search needs) (c .before .before .least .ensures ∙ ap (λ (n : ℕ). Prim.Native.Nat.min n 8) (c .before .before .before .wide2 .ensures)) (c .before .loop .inv .0) (omega arith) (sym (c .before .before .before .before .before .before .before .before .has-right .ensures) ∙ c .before .before .before .before .before .before .before .if2 .left) (c .before .loop .inv .3) in (sym e, clean-set (lent (c .before .before .before .before .before .before .before .before .before .before .before .before .before .before .before .before .before .args .rules .now) (c .before .before .before .before .before .before .before .before .before .before .before .before .before .before .before .before .before .args .kinds .now) (c .before .before .before .before .before .before .before .before .before .before .before .before .before .before .before .before .before .args .rights .now)) (c .before .before .before .before .before .before .before .before .before .before .before .before .before .before .before .before .before .args .state .now) (c .before .before .before .before .before .before .before .before .before .before .before .before .before .before .before .before .before .args .user) (c .before .before .before .before .before .before .before .before .before .before .before .before .before .before .before .before .before .args .privilege) (c .before .loop .seen) (c .before .before .before .before .before .before .before .before .before .before .before .before .before .before .before .before .before .args .k) (c .before .loop .inv .2) e)
+
+pub +condition-reaches+row-reaches-spec : {M : Type 1} → statement M
++condition-reaches+row-reaches-spec =
+    close μ-condition-reaches μ-row-reaches (λ t. condition-reaches-lts.spec (calls-condition-reaches t)
+    (condition-reaches-at t)
+    condition-reaches.Post
+    condition-reaches-Inv-loop
+    condition-reaches-μ-loop
+    (condition-reaches-roles-asked-requires t)
+    (condition-reaches-loop-holds t)
+    (condition-reaches-mul-newest-row t)
+    (condition-reaches-array-read-newest-row t)
+    (condition-reaches-newest-row-requires t)
+    (condition-reaches-add-j t)
+    (condition-reaches-loop-less t)
+    (condition-reaches-loop-again t)
+    (condition-reaches-sub-row-reaches t)
+    (condition-reaches-row-reaches-requires t)
+    (condition-reaches-same-length t)
+    (condition-reaches-returns t)
+    (condition-reaches-loop-less-2 t)
+    (condition-reaches-loop-again-2 t)
+    (condition-reaches-same-length-2 t)
+    (condition-reaches-returns-2 t))
+    λ t. row-reaches-lts.spec (calls-row-reaches t)
+    (row-reaches-at t)
+    row-reaches.Post
+    row-reaches-Inv-loop
+    row-reaches-μ-loop
+    (row-reaches-mul-if1 t)
+    (row-reaches-slice-read-if1 t)
+    (row-reaches-returns t)
+    (row-reaches-row-at-requires t)
+    (row-reaches-has-right-requires t)
+    (row-reaches-returns-2 t)
+    (row-reaches-wide-requires t)
+    (row-reaches-rule-numbered-requires t)
+    (row-reaches-wide-requires-2 t)
+    (row-reaches-least-requires t)
+    (row-reaches-loop-holds t)
+    (row-reaches-mul-condition t)
+    (row-reaches-array-read-condition t)
+    (row-reaches-add-i t)
+    (row-reaches-condition-reaches-requires t)
+    (row-reaches-same-length t)
+    (row-reaches-returns-3 t)
+    (row-reaches-loop-less t)
+    (row-reaches-loop-again t)
+    (row-reaches-mul-seen t)
+    (row-reaches-slice-write-seen t)
+    (row-reaches-same-length-2 t)
+    (row-reaches-returns-4 t)

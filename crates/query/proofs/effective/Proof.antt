@@ -1,0 +1,87 @@
+use Prim.Native.Nat.{ℕ}
+use mathlib.Core.Path.{_≡_, refl, sym, ap, _∙_}
+use mathlib.Core.Bool.{true, false}
+use mathlib.Core.List.{[], _∷_}
+use native.Mathlib.Omega.{arith}
+use borrow.Author.Tests.{le-ltb}
+use Rattle.model.specs.Calls.{isUser, isRole, isPrivilege}
+use Rattle.inner.specs.Lent.{lent}
+use Rattle.inner.proofs.Codes.{sound-sized, out-of-range}
+use Rattle.query.proofs.Reaching.{newest-within, clean-zeros}
+use Rattle.query.proofs.Telling.{effective-out, effective-inactive, effective-told}
+use borrow.Author.Needs.{needs}
+use Rattle.query.proofs.effective.Statement.{statement}
+use Rattle.query.proofs.effective.Tie as tie
+
+refused-requires : tie.Need-refused-requires
+refused-requires c κs = search needs
+
+returns : tie.Need-returns
+returns c = effective-out (c .before .before .before .before .before .before .args .rules .now) (c .before .before .before .before .before .before .args .kinds .now) (c .before .before .before .before .before .before .args .rights .now) (c .before .before .before .before .before .before .args .state .now) (c .before .before .before .before .before .before .pre) (c .before .before .before .before .before .before .args .user) (c .before .before .before .before .before .before .args .role) (c .before .before .before .before .before .before .args .privilege) (c .refused .result) (c .refused .ensures) (out-of-range (isUser (c .before .before .before .before .before .before .args .user) ∷ isRole (c .before .before .before .before .before .before .args .role) ∷ isPrivilege (c .before .before .before .before .before .before .args .privilege) ∷ []) 0 (le-ltb (c .before .before .before .before .before .before .args .user) 4096 (c .before .if1 .taken)))
+
+refused-requires-2 : tie.Need-refused-requires-2
+refused-requires-2 c κs = search needs
+
+returns-2 : tie.Need-returns-2
+returns-2 c = effective-out (c .before .before .before .before .before .before .before .args .rules .now) (c .before .before .before .before .before .before .before .args .kinds .now) (c .before .before .before .before .before .before .before .args .rights .now) (c .before .before .before .before .before .before .before .args .state .now) (c .before .before .before .before .before .before .before .pre) (c .before .before .before .before .before .before .before .args .user) (c .before .before .before .before .before .before .before .args .role) (c .before .before .before .before .before .before .before .args .privilege) (c .refused2 .result) (c .refused2 .ensures) (out-of-range (isUser (c .before .before .before .before .before .before .before .args .user) ∷ isRole (c .before .before .before .before .before .before .before .args .role) ∷ isPrivilege (c .before .before .before .before .before .before .before .args .privilege) ∷ []) 1 (le-ltb (c .before .before .before .before .before .before .before .args .role) 256 (c .before .if2 .taken)))
+
+refused-requires-3 : tie.Need-refused-requires-3
+refused-requires-3 c κs = search needs
+
+returns-3 : tie.Need-returns-3
+returns-3 c = effective-out (c .before .before .before .before .before .before .before .before .args .rules .now) (c .before .before .before .before .before .before .before .before .args .kinds .now) (c .before .before .before .before .before .before .before .before .args .rights .now) (c .before .before .before .before .before .before .before .before .args .state .now) (c .before .before .before .before .before .before .before .before .pre) (c .before .before .before .before .before .before .before .before .args .user) (c .before .before .before .before .before .before .before .before .args .role) (c .before .before .before .before .before .before .before .before .args .privilege) (c .refused3 .result) (c .refused3 .ensures) (out-of-range (isUser (c .before .before .before .before .before .before .before .before .args .user) ∷ isRole (c .before .before .before .before .before .before .before .before .args .role) ∷ isPrivilege (c .before .before .before .before .before .before .before .before .args .privilege) ∷ []) 2 (le-ltb (c .before .before .before .before .before .before .before .before .args .privilege) 1024 (c .before .if3 .taken)))
+
+shared-slice-read-wide : tie.Need-shared-slice-read-wide
+shared-slice-read-wide c = omega (arith, sound-sized _ (c .before .before .before .before .before .before .before .before .args .state .now) (c .before .before .before .before .before .before .before .before .pre) .size)
+
+wide-requires : tie.Need-wide-requires
+wide-requires c κs = search needs
+
+newest-row-requires : tie.Need-newest-row-requires
+newest-row-requires c κs = (sound-sized _ (c .before .before .before .before .before .before .before .before .before .args .state .now) (c .before .before .before .before .before .before .before .before .before .pre) .size, omega (arith, c .wide .ensures, sound-sized _ (c .before .before .before .before .before .before .before .before .before .args .state .now) (c .before .before .before .before .before .before .before .before .before .pre) .rows))
+
+refused-requires-4 : tie.Need-refused-requires-4
+refused-requires-4 c κs = search needs
+
+returns-4 : tie.Need-returns-4
+returns-4 c = effective-inactive (c .before .before .before .before .before .before .before .before .before .before .before .before .args .rules .now) (c .before .before .before .before .before .before .before .before .before .before .before .before .args .kinds .now) (c .before .before .before .before .before .before .before .before .before .before .before .before .args .rights .now) (c .before .before .before .before .before .before .before .before .before .before .before .before .args .state .now) (c .before .before .before .before .before .before .before .before .before .before .before .before .pre) (c .before .before .before .before .before .before .before .before .before .before .before .before .args .user) (c .before .before .before .before .before .before .before .before .before .before .before .before .args .role) (c .before .before .before .before .before .before .before .before .before .before .before .before .args .privilege) (c .before .before .before .before .before .before .before .if1 .left) (c .before .before .before .before .before .before .if2 .left) (c .before .before .before .before .before .if3 .left) (c .before .before .before .wide .result) (c .before .before .before .wide .ensures) (c .refused4 .result) (c .refused4 .ensures) (sym (c .before .before .newest-row .ensures) ∙ c .before .if4 .taken)
+
+slice-aggregate-row-reaches : tie.Need-slice-aggregate-row-reaches
+slice-aggregate-row-reaches c = search needs
+
+sub-row-reaches : tie.Need-sub-row-reaches
+sub-row-reaches c = search needs
+
+row-reaches-requires : tie.Need-row-reaches-requires
+row-reaches-requires c κs = (sound-sized _ (c .before .before .before .before .before .before .before .before .before .before .before .before .args .state .now) (c .before .before .before .before .before .before .before .before .before .before .before .before .pre) .size, omega (arith, c .before .before .newest-row .ensures, newest-within (c .before .before .before .before .before .before .before .before .before .before .before .before .args .state .now) (c .before .before .before .before .before .before .before .before .before .before .before .before .args .user) (c .before .before .before .before .before .before .before .before .before .before .before .before .args .role) (c .before .before .before .wide .result), c .before .before .before .wide .ensures, c .before .if4 .left, sound-sized _ (c .before .before .before .before .before .before .before .before .before .before .before .before .args .state .now) (c .before .before .before .before .before .before .before .before .before .before .before .before .pre) .rows), search needs, clean-zeros (lent (c .before .before .before .before .before .before .before .before .before .before .before .before .args .rules .now) (c .before .before .before .before .before .before .before .before .before .before .before .before .args .kinds .now) (c .before .before .before .before .before .before .before .before .before .before .before .before .args .rights .now)) (c .before .before .before .before .before .before .before .before .before .before .before .before .args .state .now) (c .before .before .before .before .before .before .before .before .before .before .before .before .args .user) (c .before .before .before .before .before .before .before .before .before .before .before .before .args .privilege) 256)
+
+returns-5 : tie.Need-returns-5
+returns-5 c = effective-told (c .before .before .before .before .before .before .before .before .before .before .before .before .before .before .before .args .rules .now) (c .before .before .before .before .before .before .before .before .before .before .before .before .before .before .before .args .kinds .now) (c .before .before .before .before .before .before .before .before .before .before .before .before .before .before .before .args .rights .now) (c .before .before .before .before .before .before .before .before .before .before .before .before .before .before .before .args .state .now) (c .before .before .before .before .before .before .before .before .before .before .before .before .before .before .before .pre) (c .before .before .before .before .before .before .before .before .before .before .before .before .before .before .before .args .user) (c .before .before .before .before .before .before .before .before .before .before .before .before .before .before .before .args .role) (c .before .before .before .before .before .before .before .before .before .before .before .before .before .before .before .args .privilege) (c .before .before .before .before .before .before .before .before .before .before .if1 .left) (c .before .before .before .before .before .before .before .before .before .if2 .left) (c .before .before .before .before .before .before .before .before .if3 .left) (c .before .before .before .before .before .before .wide .result) (c .before .before .before .before .before .before .wide .ensures) _ true (c .before .before .before .before .before .newest-row .result) (c .before .before .before .before .before .newest-row .ensures) (c .before .before .before .before .if4 .left) refl refl (sym (c .if5 .taken) ∙ c .before .before .row-reaches .ensures .0)
+
+refused-requires-5 : tie.Need-refused-requires-5
+refused-requires-5 c κs = search needs
+
+returns-6 : tie.Need-returns-6
+returns-6 c = effective-told (c .before .before .before .before .before .before .before .before .before .before .before .before .before .before .before .before .args .rules .now) (c .before .before .before .before .before .before .before .before .before .before .before .before .before .before .before .before .args .kinds .now) (c .before .before .before .before .before .before .before .before .before .before .before .before .before .before .before .before .args .rights .now) (c .before .before .before .before .before .before .before .before .before .before .before .before .before .before .before .before .args .state .now) (c .before .before .before .before .before .before .before .before .before .before .before .before .before .before .before .before .pre) (c .before .before .before .before .before .before .before .before .before .before .before .before .before .before .before .before .args .user) (c .before .before .before .before .before .before .before .before .before .before .before .before .before .before .before .before .args .role) (c .before .before .before .before .before .before .before .before .before .before .before .before .before .before .before .before .args .privilege) (c .before .before .before .before .before .before .before .before .before .before .before .if1 .left) (c .before .before .before .before .before .before .before .before .before .before .if2 .left) (c .before .before .before .before .before .before .before .before .before .if3 .left) (c .before .before .before .before .before .before .before .wide .result) (c .before .before .before .before .before .before .before .wide .ensures) (c .refused5 .result) false (c .before .before .before .before .before .before .newest-row .result) (c .before .before .before .before .before .before .newest-row .ensures) (c .before .before .before .before .before .if4 .left) (c .refused5 .ensures .0) (c .refused5 .ensures .1) (sym (c .before .if5 .left) ∙ c .before .before .before .row-reaches .ensures .0)
+
+pub effective-spec : {M : Type 1} → statement M
+effective-spec =
+    tie.close
+    (tie.spec
+    refused-requires
+    returns
+    refused-requires-2
+    returns-2
+    refused-requires-3
+    returns-3
+    shared-slice-read-wide
+    wide-requires
+    newest-row-requires
+    refused-requires-4
+    returns-4
+    slice-aggregate-row-reaches
+    sub-row-reaches
+    row-reaches-requires
+    returns-5
+    refused-requires-5
+    returns-6)
