@@ -2,10 +2,10 @@
 ghost use mathlib.Core.Path.{_≡_};
 ghost use mathlib.Core.Bool.{true};
 ghost use mathlib.Core.List.{[], _++_};
-ghost use Prim.Native.Nat.{suc, _+_, _/_, _<_, _≤_};
+ghost use Prim.Native.Nat.{suc, _<_};
 ghost use lib.ListN.{length, take, drop};
-ghost use Rattle.model.specs.Lists.{any, firstPlace};
-ghost use Rattle.model.specs.Limits.{mostRows, stateSize};
+ghost use Rattle.model.specs.Lists.{firstPlace};
+ghost use Rattle.model.specs.Limits.{stateSize};
 ghost use Rattle.model.specs.Records.{withCertificates};
 ghost use Rattle.model.specs.Layout.{decode, policyOf, certificateCount};
 ghost use Rattle.model.specs.Conditions.{satisfied, kindNumbered};
