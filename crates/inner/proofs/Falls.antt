@@ -45,8 +45,8 @@ fallen-after rules kinds s₁ s′ v lost e f l =
       count = subst (λ (x : State). lost + length (fallenRows rules kinds x) ≡ length (x .rows)) q (l .count);
     }
 
-pub one-less-fits : (t : State) (j : ℕ) → Fits t → j < length (t .certificates) → Fits (withCertificates t (take j (t .certificates) ++ drop (suc j) (t .certificates)))
-one-less-fits t j f h =
+pub one-less-fits : (t : State) (j : ℕ) → Fits t → Fits (withCertificates t (take j (t .certificates) ++ drop (suc j) (t .certificates)))
+one-less-fits t j f =
     record {
       all-facts = f .all-facts;
       bits = f .bits;
