@@ -1,25 +1,23 @@
 -- Judged first: an unsound table is a refusal of every call, and what is left are sound tables.
-use Prim.Native.Nat.{ℕ, zero, suc}
-use mathlib.Core.Path.{_≡_, refl, sym, ap, _∙_, subst, subst⁻¹}
+use Prim.Native.Nat.{ℕ}
+use mathlib.Core.Path.{_≡_, refl, sym, ap, _∙_, subst⁻¹}
 use mathlib.Core.Bool.{Bool, true, false, not, cond}
 use mathlib.Core.Logic.{_≢_}
 use mathlib.Core.List.{List, [], _∷_}
 use native.Mathlib.Omega.{arith}
-use lib.Dec.{T, eqb, eqb→eq}
-use lib.ListN.{length, replicate, getD, length-replicate, getD-replicate}
-use lib.Seq.{ext-getD}
-use borrow.Author.Tests.{eq-eqb, ne-eqb}
+use lib.Dec.{T, eqb}
+use lib.ListN.{length}
+use borrow.Author.Tests.{ne-eqb}
 use Rattle.model.specs.Records.{Tables}
-use Rattle.model.specs.Layout.{policyOf, encode}
+use Rattle.model.specs.Layout.{policyOf}
 use Rattle.model.specs.Sound.{soundPolicy, sound}
 use Rattle.model.specs.Outcome.{Refusal, firstCode, Course, judgedFirst}
-use Rattle.model.specs.Calls.{Call, fresh, nothing, freshOn, courseOf, answer}
-use Rattle.model.specs.Words.{Sound, FirstApplies, none, here, later}
+use Rattle.model.specs.Calls.{Call, fresh, freshOn, courseOf}
+use Rattle.model.specs.Words.{Sound, FirstApplies, here, later}
 use Rattle.model.specs.declared.Answer.{Answer}
-use Rattle.model.proofs.Tests.{of-true, of-false}
-use Rattle.fall.specs.Writes.{Zeroed}
+use Rattle.model.proofs.Tests.{of-false}
 use Rattle.inner.specs.Lent.{lent, Answers}
-use Rattle.inner.proofs.Codes.{refuses, accepts}
+use Rattle.inner.proofs.Codes.{refuses}
 use Rattle.calls.specs.Judgement.{judgement}
 
 -- a code given before a call's own refusals is the first that applies
@@ -60,9 +58,3 @@ all-sound t s e f = sym (λ i. cond (not (e i)) 1 (cond (not (f i)) 2 0))
 pub fresh-length : (s : List ℕ) (r : Answer) → r .code ≡ 2 → r .second ≡ 0 → length s ≢ 1602 → Answers (lent [] [] []) s fresh r s
 unfolding courseOf freshOn
 fresh-length s r a b n = refuses (lent [] [] []) s fresh r 2 (omega arith) (a, b) (here (of-false (eqb (length s) 1602) (ne-eqb (length s) 1602 n)))
-
-pub fresh-zeros : (s s′ : List ℕ) (r : Answer) → r .code ≡ 0 → r .second ≡ 0 → length s ≡ 1602 → Zeroed s s′ 0 1602 → Answers (lent [] [] []) s fresh r s′
-unfolding courseOf freshOn encode
-fresh-zeros s s′ r a b e z =
-    accepts (lent [] [] []) s fresh r s′ a (later (Rattle.model.proofs.Tests.not-not-of (eqb (length s) 1602) (of-true (eqb (length s) 1602) (eq-eqb (length s) 1602 e))) none) b
-    (ext-getD 0 s′ (replicate 1602 0) (z .size ∙ e ∙ sym (length-replicate {A = ℕ} 1602 0)) (λ i h. z .inside i (omega arith) (omega (arith, z .size)) ∙ sym (getD-replicate {A = ℕ} 1602 i 0 0 (omega (arith, z .size))))) refl

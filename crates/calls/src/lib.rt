@@ -28,8 +28,7 @@ pub fn fresh(state: &mut [u16]) -> Answer
     if state.len() != STATE_SIZE {
         return Answer { code: 2, second: 0 };
     }
-    fall::zero(state, 0, STATE_SIZE);
-    Answer { code: 0, second: 0 }
+    inner::fresh(state)
 }
 
 pub fn activate(

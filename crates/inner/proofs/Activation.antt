@@ -1,13 +1,13 @@
 -- Activate: each answer that the code gives is the model's.
 use Prim.Native.Nat.{ℕ, _≤_, _<_, _/_}
-use mathlib.Core.Path.{_≡_, refl, sym, ap, _∙_}
-use mathlib.Core.Bool.{Bool, true, false, not}
+use mathlib.Core.Path.{_≡_, refl, ap, _∙_}
+use mathlib.Core.Bool.{true, false, not}
 use mathlib.Core.List.{List, [], _∷_, _++_}
 use native.Mathlib.Omega.{arith}
 use lib.Dec.{T, leb, lt→ltb, le→leb}
 use lib.ListN.{length}
 use borrow.Author.Tests.{le-ltb, lt-leb}
-use Rattle.model.specs.Lists.{any, firstPlace}
+use Rattle.model.specs.Lists.{firstPlace}
 use Rattle.model.specs.Records.{withRows, worldOf}
 use Rattle.model.specs.Layout.{policyOf, decode, encode, rowCount, ruleFrom}
 use Rattle.model.specs.Conditions.{active, satisfied}

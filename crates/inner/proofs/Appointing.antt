@@ -4,7 +4,7 @@ use mathlib.Core.Path.{_≡_, refl, sym, ap, _∙_}
 use mathlib.Core.Bool.{Bool, true, false, not, cond}
 use mathlib.Core.List.{List, [], _∷_, _++_}
 use native.Mathlib.Omega.{arith}
-use lib.Dec.{T, eqb, leb, lt→ltb, le→leb}
+use lib.Dec.{T, eqb, lt→ltb, le→leb}
 use lib.ListN.{length}
 use borrow.Author.Tests.{lt-leb}
 use Rattle.model.specs.Lists.{every, firstPlace}
@@ -14,11 +14,10 @@ use Rattle.model.specs.Conditions.{kindNumbered, active}
 use Rattle.model.specs.Sound.{sameCertificate}
 use Rattle.model.specs.Outcome.{judgedFirst, given}
 use Rattle.model.specs.Calls.{appoint, isUser, hasRow, stands, mayRevoke, appointOn, courseOf}
-use Rattle.model.specs.Words.{Sound, FirstApplies, none, here, later}
+use Rattle.model.specs.Words.{Sound, none, here, later}
 use Rattle.model.specs.declared.Answer.{Answer}
 use Rattle.model.specs.declared.Kind.{Kind}
 use Rattle.model.specs.declared.Row.{Row}
-use Rattle.model.specs.declared.Certificate.{Certificate}
 use Rattle.model.proofs.Tests.{of-true, of-false}
 use Rattle.table.specs.Entries.{without-rights}
 use Rattle.inner.specs.Lent.{lent, Answers}

@@ -1,7 +1,7 @@
 -- From the tests that a call makes to the code that it answers.
 use Prim.Native.Nat.{ℕ, zero, suc, _/_, _≤_, _<_}
-use mathlib.Core.Path.{_≡_, refl, sym, ap, _∙_, subst, subst⁻¹}
-use mathlib.Core.Bool.{Bool, true, false, not, _&&_, cond, true≢false}
+use mathlib.Core.Path.{_≡_, refl, sym, ap, _∙_, subst⁻¹}
+use mathlib.Core.Bool.{Bool, true, false, not, _&&_, true≢false}
 use mathlib.Core.Logic.{_≢_}
 use mathlib.Core.List.{List, [], _∷_}
 use native.Mathlib.Omega.{arith}
@@ -14,7 +14,7 @@ use Rattle.model.specs.Conditions.{active}
 use Rattle.model.specs.Sound.{policyClauses, soundPolicy, wellFormed, sound}
 use Rattle.model.specs.Outcome.{Course, judgedFirst}
 use Rattle.model.specs.Calls.{Call, courseOf, answer}
-use Rattle.model.specs.Words.{Sound, FirstApplies, none, here, later}
+use Rattle.model.specs.Words.{Sound, FirstApplies, later}
 use Rattle.model.specs.declared.Answer.{Answer}
 use Rattle.model.proofs.Numbers.{sound-formed}
 use Rattle.table.specs.Entries.{firstRows, Sized}

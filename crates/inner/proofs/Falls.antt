@@ -1,29 +1,28 @@
 -- Revoke, withdraw, environment and logout: what goes, what falls with it, and that the code's answers are the model's.
-use Prim.Native.Nat.{ℕ, zero, suc, _+_, _-_, _≤_, _<_, _/_}
+use Prim.Native.Nat.{ℕ, suc, _+_, _≤_, _<_, _/_}
 use mathlib.Core.Path.{_≡_, refl, sym, ap, _∙_, subst, subst⁻¹}
-use mathlib.Core.Bool.{Bool, true, false, not, _&&_, _||_, cond}
-use mathlib.Core.Logic.{_⊎_, inl, inr}
+use mathlib.Core.Bool.{Bool, true, false, not, _||_, cond}
 use mathlib.Core.List.{List, [], _∷_, _++_, List·Memᴰ, Memᴰ·append-right, List·Memᴰ·head}
 use native.Mathlib.Omega.{arith}
-use lib.Dec.{T, eqb, ltb, leb, eqb→eq, eqb-refl, lt→ltb, le→leb}
-use lib.ListN.{length, take, drop, length-take, length-drop, length-append, length-set}
-use borrow.Author.Tests.{le-ltb, lt-leb}
-use Rattle.model.specs.Lists.{any, every, all, allOverEarlier, without, firstPlace, isBit}
+use lib.Dec.{T, eqb, ltb, eqb→eq, lt→ltb, le→leb}
+use lib.ListN.{length, take, drop, length-take, length-drop, length-append}
+use borrow.Author.Tests.{le-ltb}
+use Rattle.model.specs.Lists.{any, every, allOverEarlier, without, firstPlace, isBit}
 use Rattle.model.specs.Limits.{facts}
-use Rattle.model.specs.Records.{Tables, Policy, State, worldOf, withRows, withCertificates, withFact}
+use Rattle.model.specs.Records.{Policy, State, worldOf, withRows, withCertificates, withFact}
 use Rattle.model.specs.Layout.{policyOf, decode, encode, certificateCount, kindFrom}
 use Rattle.model.specs.Conditions.{kindNumbered, supported}
 use Rattle.model.specs.Left.{left}
 use Rattle.model.specs.Sound.{sameCertificate, certificateClauses, certificateSound, wellFormed}
 use Rattle.model.specs.Outcome.{judgedFirst, given}
 use Rattle.model.specs.Calls.{revoke, withdraw, environment, logout, isUser, hasRow, stands, ofUser, mayRevoke, withoutCertificate, settled, revokeOn, withdrawOn, environmentOn, logoutOn, courseOf}
-use Rattle.model.specs.Words.{Fits, Sound, FirstApplies, none, here, later}
+use Rattle.model.specs.Words.{Fits, Sound, none, here, later}
 use Rattle.model.specs.declared.Answer.{Answer}
 use Rattle.model.specs.declared.Row.{Row}
 use Rattle.model.specs.declared.Certificate.{Certificate}
-use Rattle.model.proofs.Tests.{and-left, and-right, is-true, of-true, of-false, not-of, refute, decide, each, of-each, earlier-of}
+use Rattle.model.proofs.Tests.{and-right, is-true, of-true, of-false, not-of, refute, each, of-each, earlier-of}
 use Rattle.model.proofs.Parts.{without-none}
-use Rattle.model.proofs.Numbers.{decode-encode, encode-formed, decode-fits, sound-decode}
+use Rattle.model.proofs.Numbers.{decode-encode, encode-formed, sound-decode}
 use Rattle.model.proofs.Kept.{sound-certificates, fact-fits}
 use Rattle.table.specs.Entries.{worldAt, without-rights}
 use Rattle.table.proofs.Entries.{length-entries}
@@ -46,8 +45,8 @@ fallen-after rules kinds s₁ s′ v lost e f l =
       count = subst (λ (x : State). lost + length (fallenRows rules kinds x) ≡ length (x .rows)) q (l .count);
     }
 
-pub one-less-fits : (t : State) (j : ℕ) → Fits t → j < length (t .certificates) → Fits (withCertificates t (take j (t .certificates) ++ drop (suc j) (t .certificates)))
-one-less-fits t j f h =
+pub one-less-fits : (t : State) (j : ℕ) → Fits t → Fits (withCertificates t (take j (t .certificates) ++ drop (suc j) (t .certificates)))
+one-less-fits t j f =
     record {
       all-facts = f .all-facts;
       bits = f .bits;
@@ -135,9 +134,6 @@ module _ (rules kinds rights s : List ℕ) (h : Sound (lent rules kinds rights) 
   -- ── withdraw ──
 
   module _ (a k b : ℕ) where
-    c : Certificate
-    c = record { appointee = a; kind = k; appointer = b }
-
     withdraw-is : courseOf (lent rules kinds rights) s [] (withdraw a k b) ≡ judgedFirst (lent rules kinds rights) s (withdrawOn (given (lent rules kinds rights) s []) (record { appointee = a; kind = k; appointer = b }))
     unfolding courseOf
     withdraw-is = refl

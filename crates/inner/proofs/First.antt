@@ -1,6 +1,6 @@
 -- Searching a table for its first entry that passes.
-use Prim.Native.Nat.{ℕ, zero, suc, _+_, _≤_, _<_}
-use mathlib.Core.Path.{_≡_, refl, sym, ap, _∙_, subst, subst⁻¹}
+use Prim.Native.Nat.{ℕ, suc, _≤_, _<_}
+use mathlib.Core.Path.{_≡_, refl, sym, ap, _∙_, subst}
 use mathlib.Core.Bool.{Bool, true, false, not, _||_, cond, true≢false}
 use mathlib.Core.Logic.{_⊎_, inl, inr}
 use mathlib.Core.List.{List, [], _∷_}
@@ -8,7 +8,7 @@ use native.Mathlib.Omega.{arith}
 use lib.Dec.{T}
 use lib.ListN.{length, getD}
 use Rattle.model.specs.Lists.{any, firstPlace}
-use Rattle.model.proofs.Tests.{lt-or-ge, of-true, of-false, is-true, refute, of-any, first-place}
+use Rattle.model.proofs.Tests.{lt-or-ge, of-true, is-true, refute, of-any, first-place}
 use Rattle.table.specs.Entries.{entry, entries}
 use Rattle.table.proofs.Entries.{any-hit, entry-in, entry-member, length-entries}
 

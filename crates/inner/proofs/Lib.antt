@@ -1,5 +1,6 @@
 pub mod First
 pub mod Codes
+pub mod Clearing
 pub mod Activation
 pub mod Falls
 pub mod Appointing

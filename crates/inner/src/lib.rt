@@ -2,15 +2,15 @@
 ghost use mathlib.Core.Path.{_≡_};
 ghost use mathlib.Core.Bool.{true};
 ghost use mathlib.Core.List.{[], _++_};
-ghost use Prim.Native.Nat.{suc, _+_, _/_, _<_, _≤_};
+ghost use Prim.Native.Nat.{suc, _<_};
 ghost use lib.ListN.{length, take, drop};
-ghost use Rattle.model.specs.Lists.{any, firstPlace};
-ghost use Rattle.model.specs.Limits.{mostRows};
+ghost use Rattle.model.specs.Lists.{firstPlace};
+ghost use Rattle.model.specs.Limits.{stateSize};
 ghost use Rattle.model.specs.Records.{withCertificates};
 ghost use Rattle.model.specs.Layout.{decode, policyOf, certificateCount};
 ghost use Rattle.model.specs.Conditions.{satisfied, kindNumbered};
 ghost use Rattle.model.specs.Sound.{wellFormed, sameCertificate};
-ghost use Rattle.model.specs.Calls.{activate as activateCall, appoint as appointCall, revoke as revokeCall, withdraw as withdrawCall, environment as environmentCall, logout as logoutCall, mayRevoke};
+ghost use Rattle.model.specs.Calls.{fresh as freshCall, activate as activateCall, appoint as appointCall, revoke as revokeCall, withdraw as withdrawCall, environment as environmentCall, logout as logoutCall, mayRevoke};
 ghost use Rattle.model.specs.Words.{Sound};
 ghost use Rattle.table.specs.Entries.{worldAt, without-rights, Sized};
 ghost use Rattle.inner.specs.Lent.{lent, Answers, Fallen};
@@ -27,6 +27,8 @@ const FACTS: u16 = 64;
 const ROW_COUNT: usize = 64;
 
 const CERTIFICATE_COUNT: usize = 833;
+
+const STATE_SIZE: usize = 1602;
 
 const RULE_WIDTH: usize = 11;
 
@@ -68,6 +70,15 @@ fn find_certificate(state: &[u16], certificate: Certificate) -> usize
         i += 1;
     }
     i
+}
+
+// All zeros, in a state of the right length.
+pub fn fresh(state: &mut [u16]) -> Answer
+    requires { ⌜ length (now state) ≡ stateSize ⌝ }
+    ensures { λ r. ⌜ Answers (lent [] [] []) (now (state .entry)) freshCall r (now (state .exit)) ⌝ }
+{
+    fall::zero(state, 0, STATE_SIZE);
+    refused(0)
 }
 
 pub fn activate(

@@ -1,16 +1,16 @@
 -- Invoke: each answer that the code gives is the model's.
-use Prim.Native.Nat.{ℕ, _≤_, _<_}
+use Prim.Native.Nat.{ℕ, _<_}
 use mathlib.Core.Path.{_≡_, refl, sym, ap, _∙_}
-use mathlib.Core.Bool.{Bool, true, false, not, cond}
+use mathlib.Core.Bool.{Bool, not, cond}
 use mathlib.Core.List.{List, [], _∷_}
 use native.Mathlib.Omega.{arith}
 use lib.Dec.{T, lt→ltb}
 use Rattle.model.specs.Lists.{every}
-use Rattle.model.specs.Layout.{policyOf, decode, encode}
+use Rattle.model.specs.Layout.{policyOf, decode}
 use Rattle.model.specs.Effective.{direct}
 use Rattle.model.specs.Outcome.{judgedFirst, given}
 use Rattle.model.specs.Calls.{invoke, isUser, isPrivilege, allowed, invokeOn, courseOf}
-use Rattle.model.specs.Words.{Sound, FirstApplies, none, here, later}
+use Rattle.model.specs.Words.{Sound, none, here, later}
 use Rattle.model.specs.declared.Answer.{Answer}
 use Rattle.model.proofs.Numbers.{encode-decode, sound-formed}
 use Rattle.inner.specs.Lent.{lent, Answers}

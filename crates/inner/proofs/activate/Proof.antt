@@ -1,11 +1,5 @@
-use Prim.Native.Nat.{ℕ, _/_, _<_, _≤_}
-use mathlib.Core.Path.{_≡_, refl, sym, ap, _∙_}
-use mathlib.Core.Bool.{true, false}
+use mathlib.Core.Path.{refl, sym, _∙_}
 use native.Mathlib.Omega.{arith}
-use lib.ListN.{length}
-use Rattle.model.specs.Layout.{decode, rowCount}
-use Rattle.model.specs.Conditions.{active}
-use Rattle.inner.specs.Lent.{lent}
 use Rattle.inner.proofs.Codes.{sound-form, sound-sized, sound-rules, active-now}
 use Rattle.inner.proofs.Activation.{no-user, no-role, is-held, no-rule, no-room, granted}
 use borrow.Author.Needs.{needs}

@@ -1,15 +1,13 @@
-use Prim.Native.Nat.{ℕ, suc, _/_}
-use mathlib.Core.Path.{_≡_, refl, sym, ap, _∙_}
-use mathlib.Core.Bool.{true, false}
-use mathlib.Core.List.{[], _∷_, _++_}
+use Prim.Native.Nat.{ℕ}
+use mathlib.Core.Path.{sym, ap, _∙_}
+use mathlib.Core.List.{[], _∷_}
 use native.Mathlib.Omega.{arith}
-use lib.ListN.{length}
 use borrow.Author.Tests.{le-ltb, not-true, not-false}
-use Rattle.model.specs.Layout.{policyOf, decode, certificateCount}
+use Rattle.model.specs.Layout.{policyOf, decode}
 use Rattle.model.specs.Conditions.{kindNumbered, active}
 use Rattle.model.specs.Calls.{isUser, hasRow}
 use Rattle.model.specs.declared.Kind.{Kind}
-use Rattle.table.specs.Entries.{without-rights, firstRows}
+use Rattle.table.specs.Entries.{without-rights}
 use Rattle.inner.specs.Lent.{lent}
 use Rattle.inner.proofs.Codes.{sound-form, sound-sized, out-of-range, active-now}
 use Rattle.inner.proofs.Falls.{no-kind}

@@ -1,5 +1,5 @@
 use Prim.Native.Nat.{ℕ}
-use mathlib.Core.Path.{refl, _≡_, ap, _∙_}
+use mathlib.Core.Path.{refl, ap, _∙_}
 use mathlib.Core.List.{[], _∷_}
 use native.Mathlib.Omega.{arith}
 use lib.Dec.{ltb}
@@ -35,7 +35,7 @@ set-fact-requires : tie.Need-set-fact-requires
 set-fact-requires c κs = (sound-form _ (c .before .before .before .before .before .before .before .before .args .state .now) (c .before .before .before .before .before .before .before .before .pre), omega (arith, c .wide .ensures), omega arith)
 
 fall-requires : tie.Need-fall-requires
-fall-requires c κs = encoded-formed _ (withFact (decode (c .before .before .before .before .before .before .before .before .before .before .before .before .args .state .now)) (c .before .before .before .before .before .before .before .before .before .before .before .before .args .fact) (c .before .before .before .before .before .before .before .before .before .before .before .before .args .value)) (c .before .before .before .set-fact .ensures ∙ ap (λ (n : ℕ). encode (withFact (decode (c .before .before .before .before .before .before .before .before .before .before .before .before .args .state .now)) n (c .before .before .before .before .before .before .before .before .before .before .before .before .args .value))) (c .before .before .before .before .wide .ensures)) (fact-set-fits (c .before .before .before .before .before .before .before .before .before .before .before .before .args .rules .now) (c .before .before .before .before .before .before .before .before .before .before .before .before .args .kinds .now) (c .before .before .before .before .before .before .before .before .before .before .before .before .args .rights .now) (c .before .before .before .before .before .before .before .before .before .before .before .before .args .state .now) (c .before .before .before .before .before .before .before .before .before .before .before .before .pre) (c .before .before .before .before .before .before .before .before .before .before .before .before .args .fact) (c .before .before .before .before .before .before .before .before .before .before .before .before .args .value) (omega arith))
+fall-requires c κs = encoded-formed _ _ (c .before .before .before .set-fact .ensures) (fact-set-fits (c .before .before .before .before .before .before .before .before .before .before .before .before .args .rules .now) (c .before .before .before .before .before .before .before .before .before .before .before .before .args .kinds .now) (c .before .before .before .before .before .before .before .before .before .before .before .before .args .rights .now) (c .before .before .before .before .before .before .before .before .before .before .before .before .args .state .now) (c .before .before .before .before .before .before .before .before .before .before .before .before .pre) _ (c .before .before .before .before .before .before .before .before .before .before .before .before .args .value) (omega arith))
 
 -- src/lib.rt:243:1
 same-length : tie.Need-same-length

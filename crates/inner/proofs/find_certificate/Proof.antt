@@ -1,9 +1,9 @@
 -- The invariant: none of the certificates passed is this one.
 use Prim.Native.Nat.{ℕ, _≤_, _-_}
 use mathlib.Core.Path.{_≡_, refl, sym, ap, _∙_}
-use mathlib.Core.Bool.{Bool, false}
+use mathlib.Core.Bool.{false}
 use native.Mathlib.Omega.{arith}
-use Rattle.model.specs.Lists.{any, firstPlace}
+use Rattle.model.specs.Lists.{any}
 use Rattle.model.specs.Layout.{decode, certificateCount, certificateFrom, certificateNumbers}
 use Rattle.model.specs.Sound.{sameCertificate}
 use Rattle.table.specs.Entries.{entries, certificateAt}

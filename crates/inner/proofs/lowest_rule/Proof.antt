@@ -5,7 +5,7 @@ use mathlib.Core.Bool.{Bool, false}
 use mathlib.Core.List.{List}
 use native.Mathlib.Omega.{arith}
 use lib.ListN.{length}
-use Rattle.model.specs.Lists.{any, firstPlace}
+use Rattle.model.specs.Lists.{any}
 use Rattle.model.specs.Layout.{decode, policyOf, ruleFrom}
 use Rattle.model.specs.Conditions.{satisfied}
 use Rattle.model.specs.declared.Rule.{Rule}

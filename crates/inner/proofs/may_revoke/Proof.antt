@@ -1,12 +1,10 @@
 use Prim.Native.Nat.{ℕ}
-use mathlib.Core.Path.{_≡_, refl, sym, ap, _∙_}
-use mathlib.Core.Bool.{Bool}
+use mathlib.Core.Path.{ap, _∙_}
 use mathlib.Core.List.{[]}
 use native.Mathlib.Omega.{arith}
 use borrow.Author.Tests.{eq-eqb, ne-eqb}
 use Rattle.model.specs.Layout.{decode, policyOf}
-use Rattle.model.specs.Conditions.{kindNumbered, active}
-use Rattle.model.specs.declared.Kind.{Kind}
+use Rattle.model.specs.Conditions.{kindNumbered}
 use Rattle.table.specs.Entries.{without-rights}
 use Rattle.inner.proofs.Codes.{active-now}
 use Rattle.inner.proofs.Appointing.{by-appointer, by-role, by-nobody}

@@ -1,0 +1,22 @@
+use Rattle.inner.proofs.Clearing.{fresh-zeros}
+use borrow.Author.Needs.{needs}
+use Rattle.inner.proofs.fresh.Statement.{statement}
+use Rattle.inner.proofs.fresh.Tie as tie
+
+-- src/lib.rt:80:5
+zero-requires : tie.Need-zero-requires
+zero-requires c κs = search needs
+
+-- src/lib.rt:81:5
+refused-requires : tie.Need-refused-requires
+refused-requires c κs = search needs
+
+-- src/lib.rt:76:1
+same-length : tie.Need-same-length
+same-length c = search needs
+
+returns : tie.Need-returns
+returns c = fresh-zeros (c .before .before .before .before .before .before .args .state .now) _ (c .refused .result) (c .refused .ensures) (c .before .before .before .before .before .before .pre) (c .before .before .before .zero .ensures)
+
+pub fresh-spec : {M : Type 1} → statement M
+fresh-spec = tie.close (tie.spec zero-requires refused-requires same-length returns)
