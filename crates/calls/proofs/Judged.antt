@@ -16,7 +16,7 @@ use Rattle.model.specs.Calls.{Call, fresh, freshOn, courseOf}
 use Rattle.model.specs.Words.{Sound, FirstApplies, here, later}
 use Rattle.model.specs.declared.Answer.{Answer}
 use Rattle.model.proofs.Tests.{of-false}
-use Rattle.inner.specs.Lent.{lent, Answers}
+use Rattle.inner.specs.Lent.{lent, AnswersWith, Answers}
 use Rattle.inner.proofs.Codes.{refuses}
 use Rattle.calls.specs.Judgement.{judgement}
 
@@ -26,10 +26,10 @@ first-judged true true rs n z e = absurd (z e)
 first-judged true false rs n z e = subst⁻¹ (λ (k : ℕ). FirstApplies (record { applies = false; code = 1 } ∷ record { applies = true; code = 2 } ∷ rs) k) e (later tt (here tt))
 first-judged false b rs n z e = subst⁻¹ (λ (k : ℕ). FirstApplies (record { applies = true; code = 1 } ∷ record { applies = not b; code = 2 } ∷ rs) k) e (here tt)
 
-pub unsound : (t : Tables) (s : List ℕ) (c : Call) (course : Course) → courseOf t s [] c ≡ judgedFirst t s course → (r : Answer) → r .second ≡ 0 → r .code ≢ 0 → r .code ≡ judgement t s → Answers t s c r s
+pub unsound : (t : Tables) (s list : List ℕ) (c : Call) (course : Course) → courseOf t s list c ≡ judgedFirst t s course → (r : Answer) → r .second ≡ 0 → r .code ≢ 0 → r .code ≡ judgement t s → AnswersWith t s list c r s list
 unfolding judgement judgedFirst
-unsound t s c course is r z n e =
-    refuses t s c r (r .code) n (refl, z) (subst⁻¹ (λ (x : Course). FirstApplies (x .refusals) (r .code)) is (first-judged (soundPolicy t) (sound (policyOf t) s) (course .refusals) (r .code) n e))
+unsound t s list c course is r z n e =
+    refuses t s list c r (r .code) n (refl, z) (subst⁻¹ (λ (x : Course). FirstApplies (x .refusals) (r .code)) is (first-judged (soundPolicy t) (sound (policyOf t) s) (course .refusals) (r .code) n e))
 
 both : (a b : Bool) → 0 ≡ firstCode (record { applies = not a; code = 1 } ∷ record { applies = not b; code = 2 } ∷ []) → T a × T b
 both true true e = (tt, tt)
@@ -57,4 +57,4 @@ all-sound t s e f = sym (λ i. cond (not (e i)) 1 (cond (not (f i)) 2 0))
 
 pub fresh-length : (s : List ℕ) (r : Answer) → r .code ≡ 2 → r .second ≡ 0 → length s ≢ 1602 → Answers (lent [] [] []) s fresh r s
 unfolding courseOf freshOn
-fresh-length s r a b n = refuses (lent [] [] []) s fresh r 2 (omega arith) (a, b) (here (of-false (eqb (length s) 1602) (ne-eqb (length s) 1602 n)))
+fresh-length s r a b n = refuses (lent [] [] []) s [] fresh r 2 (omega arith) (a, b) (here (of-false (eqb (length s) 1602) (ne-eqb (length s) 1602 n)))

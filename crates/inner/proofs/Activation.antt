@@ -30,7 +30,7 @@ module _ (rules kinds rights s : List ℕ) (h : Sound (lent rules kinds rights) 
   own f = judged (lent rules kinds rights) s h (activateOn (given (lent rules kinds rights) s []) u q) f
 
   refused : (r : Answer) (code : ℕ) → Prim.Native.Nat._<_ 0 code → (r .code ≡ code) × (r .second ≡ 0) → FirstApplies (activateOn (given (lent rules kinds rights) s []) u q .refusals) code → Answers (lent rules kinds rights) s (activate u q) r s
-  refused r code n a f = refuses (lent rules kinds rights) s (activate u q) r code (omega arith) a (own f)
+  refused r code n a f = refuses (lent rules kinds rights) s [] (activate u q) r code (omega arith) a (own f)
 
   pub no-user : (r : Answer) → (r .code ≡ 3) × (r .second ≡ 0) → 4096 ≤ u → Answers (lent rules kinds rights) s (activate u q) r s
   unfolding activateOn
@@ -75,6 +75,6 @@ module _ (rules kinds rights s : List ℕ) (h : Sound (lent rules kinds rights) 
         pub granted : (r : Answer) (s′ : List ℕ) → rowCount s < 256 → r .code ≡ 0 → r .second ≡ i → s′ ≡ encode (withRows (decode s) (decode s .rows ++ (record { user = u; role = q; rule = i } ∷ []))) → Answers (lent rules kinds rights) s (activate u q) r s′
         unfolding courseOf judgedFirst activateOn
         granted r s′ l z e f =
-            accepts (lent rules kinds rights) s (activate u q) r s′ z
+            accepts (lent rules kinds rights) s [] (activate u q) r s′ [] z
             (own (later range (later (of-false (active (decode s .rows) u q) new) (later (found _ satisfied-now) (later (of-false (leb 256 (length (decode s .rows))) (lt-leb 256 (length (decode s .rows)) (omega (arith, row-length s)))) none)))))
             (e ∙ lowest-same) (f ∙ ap (λ (n : ℕ). encode (withRows (decode s) (decode s .rows ++ (record { user = u; role = q; rule = n } ∷ [])))) lowest-same) refl

@@ -18,5 +18,5 @@ use Rattle.inner.proofs.Codes.{accepts, found}
 pub fresh-zeros : (s s′ : List ℕ) (r : Answer) → (r .code ≡ 0) × (r .second ≡ 0) → length s ≡ 1602 → Zeroed s s′ 0 1602 → Answers (lent [] [] []) s fresh r s′
 unfolding courseOf freshOn encode
 fresh-zeros s s′ r a e z =
-    accepts (lent [] [] []) s fresh r s′ (a .0) (later (found (eqb (length s) 1602) (eq-eqb (length s) 1602 e)) none) (a .1)
+    accepts (lent [] [] []) s [] fresh r s′ [] (a .0) (later (found (eqb (length s) 1602) (eq-eqb (length s) 1602 e)) none) (a .1)
     (ext-getD 0 s′ (replicate 1602 0) (z .size ∙ e ∙ sym (length-replicate {A = ℕ} 1602 0)) (λ i h. z .inside i (omega arith) (omega (arith, z .size)) ∙ sym (getD-replicate {A = ℕ} 1602 i 0 0 (omega (arith, z .size))))) refl

@@ -20,7 +20,7 @@ use Rattle.model.proofs.Numbers.{sound-formed}
 use Rattle.table.specs.Entries.{firstRows, Sized}
 use Rattle.table.proofs.Entries.{length-entries}
 use Rattle.fall.proofs.Form.{formed, sized}
-use Rattle.inner.specs.Lent.{lent, Answers}
+use Rattle.inner.specs.Lent.{lent, AnswersWith}
 use Rattle.model.proofs.Tests.{is-true, of-true, of-false, not-not-of, Each, each, of-each}
 use Rattle.model.proofs.Refusals.{only-first, answer-code, refused-unchanged, accepted-done}
 
@@ -53,18 +53,19 @@ found b e = not-not-of b (of-true b e)
 
 -- ── what is promised then ──
 
--- a refusal: the code, zero, and what was lent
-pub refuses : (t : Tables) (s : List ℕ) (c : Call) (r : Answer) (code : ℕ) → code ≢ 0 → (r .code ≡ code) × (r .second ≡ 0) → FirstApplies (courseOf t s [] c .refusals) code → Answers t s c r s
-refuses t s c r code n a f =
-    let same : answer t s [] c .code ≡ code = answer-code t s [] c ∙ sym (only-first f) in
-    let u = refused-unchanged t s [] c (λ z. n (sym same ∙ z)) in
-    record { code-kept = a .0 ∙ sym same; second-kept = a .1 ∙ sym (u .second-zero); state-kept = sym (u .state-same); list-kept = sym (u .list-same) }
+module _ (t : Tables) (s list : List ℕ) (c : Call) (r : Answer) where
+  -- a refusal: the code, zero, and what was lent
+  pub refuses : (code : ℕ) → code ≢ 0 → (r .code ≡ code) × (r .second ≡ 0) → FirstApplies (courseOf t s list c .refusals) code → AnswersWith t s list c r s list
+  refuses code n a f =
+      let same : answer t s list c .code ≡ code = answer-code t s list c ∙ sym (only-first f) in
+      let u = refused-unchanged t s list c (λ z. n (sym same ∙ z)) in
+      record { code-kept = a .0 ∙ sym same; second-kept = a .1 ∙ sym (u .second-zero); state-kept = sym (u .state-same); list-kept = sym (u .list-same) }
 
--- acceptance: the effect
-pub accepts : (t : Tables) (s : List ℕ) (c : Call) (r : Answer) (s′ : List ℕ) → r .code ≡ 0 → FirstApplies (courseOf t s [] c .refusals) 0 → r .second ≡ courseOf t s [] c .effect .second → s′ ≡ encode (courseOf t s [] c .effect .state) → [] ≡ courseOf t s [] c .effect .list → Answers t s c r s′
-accepts t s c r s′ z f a b l =
-    let d = accepted-done t s [] c (answer-code t s [] c ∙ sym (only-first f)) in
-    record { code-kept = z ∙ sym (d .code-zero); second-kept = a ∙ sym (d .second-told); state-kept = b ∙ sym (d .state-left); list-kept = l ∙ sym (d .list-left) }
+  -- acceptance: the effect
+  pub accepts : (s′ list′ : List ℕ) → r .code ≡ 0 → FirstApplies (courseOf t s list c .refusals) 0 → r .second ≡ courseOf t s list c .effect .second → s′ ≡ encode (courseOf t s list c .effect .state) → list′ ≡ courseOf t s list c .effect .list → AnswersWith t s list c r s′ list′
+  accepts s′ list′ z f a b l =
+      let d = accepted-done t s list c (answer-code t s list c ∙ sym (only-first f)) in
+      record { code-kept = z ∙ sym (d .code-zero); second-kept = a ∙ sym (d .second-told); state-kept = b ∙ sym (d .state-left); list-kept = l ∙ sym (d .list-left) }
 
 -- ── what sound tables are ──
 
@@ -96,13 +97,13 @@ sound-rules rules kinds rights s h =
 
 -- ── a call that is judged first, on sound tables ──
 
-module _ (t : Tables) (s : List ℕ) (h : Sound t s) (c : Call) (course : Course) (is : courseOf t s [] c ≡ judgedFirst t s course) where
-  own : {n : ℕ} → FirstApplies (course .refusals) n → FirstApplies (courseOf t s [] c .refusals) n
+module _ (t : Tables) (s list : List ℕ) (h : Sound t s) (c : Call) (course : Course) (is : courseOf t s list c ≡ judgedFirst t s course) where
+  own : {n : ℕ} → FirstApplies (course .refusals) n → FirstApplies (courseOf t s list c .refusals) n
   own {n} f = subst⁻¹ (λ (x : Course). FirstApplies (x .refusals) n) is (judged t s h course f)
 
-  pub own-refuses : (r : Answer) (code : ℕ) → 0 < code → (r .code ≡ code) × (r .second ≡ 0) → FirstApplies (course .refusals) code → Answers t s c r s
-  own-refuses r code n a f = refuses t s c r code (omega arith) a (own f)
+  pub own-refuses : (r : Answer) (code : ℕ) → 0 < code → (r .code ≡ code) × (r .second ≡ 0) → FirstApplies (course .refusals) code → AnswersWith t s list c r s list
+  own-refuses r code n a f = refuses t s list c r code (omega arith) a (own f)
 
-  pub own-accepts : (r : Answer) (s′ : List ℕ) → r .code ≡ 0 → FirstApplies (course .refusals) 0 → r .second ≡ course .effect .second → s′ ≡ encode (course .effect .state) → [] ≡ course .effect .list → Answers t s c r s′
+  pub own-accepts : (r : Answer) (s′ list′ : List ℕ) → r .code ≡ 0 → FirstApplies (course .refusals) 0 → r .second ≡ course .effect .second → s′ ≡ encode (course .effect .state) → list′ ≡ course .effect .list → AnswersWith t s list c r s′ list′
   unfolding judgedFirst
-  own-accepts r s′ z f a b l = accepts t s c r s′ z (own f) (a ∙ ap (λ (x : Course). x .effect .second) (sym is)) (b ∙ ap (λ (x : Course). encode (x .effect .state)) (sym is)) (l ∙ ap (λ (x : Course). x .effect .list) (sym is))
+  own-accepts r s′ list′ z f a b l = accepts t s list c r s′ list′ z (own f) (a ∙ ap (λ (x : Course). x .effect .second) (sym is)) (b ∙ ap (λ (x : Course). encode (x .effect .state)) (sym is)) (l ∙ ap (λ (x : Course). x .effect .list) (sym is))

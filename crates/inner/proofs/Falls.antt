@@ -140,7 +140,7 @@ module _ (rules kinds rights s : List ℕ) (h : Sound (lent rules kinds rights) 
 
     pub withdraw-out : (r : Answer) → (r .code ≡ 3) × (r .second ≡ 0) → T (not (every (isUser a ∷ hasRow (policyOf (lent rules kinds rights)) k ∷ isUser b ∷ []))) → Answers (lent rules kinds rights) s (withdraw a k b) r s
     unfolding withdrawOn
-    withdraw-out r z o = own-refuses (lent rules kinds rights) s h (withdraw a k b) _ withdraw-is r 3 (omega arith) z (here o)
+    withdraw-out r z o = own-refuses (lent rules kinds rights) s [] h (withdraw a k b) _ withdraw-is r 3 (omega arith) z (here o)
 
     module _ (in₁ : a < 4096) (in₂ : k < length kinds / 7) (in₃ : b < 4096) (j : ℕ) (at : j ≡ firstPlace (sameCertificate (record { appointee = a; kind = k; appointer = b })) (decode s .certificates)) where
       withdraw-range : T (not (not (every (isUser a ∷ hasRow (policyOf (lent rules kinds rights)) k ∷ isUser b ∷ []))))
@@ -149,13 +149,13 @@ module _ (rules kinds rights s : List ℕ) (h : Sound (lent rules kinds rights) 
       pub withdraw-none : (r : Answer) → (r .code ≡ 9) × (r .second ≡ 0) → certificateCount s ≤ j → Answers (lent rules kinds rights) s (withdraw a k b) r s
       unfolding withdrawOn
       withdraw-none r z l =
-          own-refuses (lent rules kinds rights) s h (withdraw a k b) _ withdraw-is r 9 (omega arith) z
+          own-refuses (lent rules kinds rights) s [] h (withdraw a k b) _ withdraw-is r 9 (omega arith) z
           (later withdraw-range (here (of-false (stands (decode s) (record { appointee = a; kind = k; appointer = b })) (not-found (sameCertificate (record { appointee = a; kind = k; appointer = b })) (decode s .certificates) (omega (arith, certificate-length s))))))
 
       pub withdraw-done : (r : Answer) (s′ : List ℕ) → j < certificateCount s → r .code ≡ 0 → Fallen rules kinds (withCertificates (decode s) (take j (decode s .certificates) ++ drop (suc j) (decode s .certificates))) s′ (r .second) → Answers (lent rules kinds rights) s (withdraw a k b) r s′
       unfolding withdrawOn settled
       withdraw-done r s′ l z f =
-          own-accepts (lent rules kinds rights) s h (withdraw a k b) _ withdraw-is r s′ z
+          own-accepts (lent rules kinds rights) s [] h (withdraw a k b) _ withdraw-is r s′ [] z
           (later withdraw-range (later (found _ (it-stands (record { appointee = a; kind = k; appointer = b }) j at l s′ (r .second) f)) none))
           (taken-second (record { appointee = a; kind = k; appointer = b }) j at l s′ (r .second) f) (taken-state (record { appointee = a; kind = k; appointer = b }) j at l s′ (r .second) f) refl
 
@@ -168,7 +168,7 @@ module _ (rules kinds rights s : List ℕ) (h : Sound (lent rules kinds rights) 
 
     pub revoke-out : (r : Answer) → (r .code ≡ 3) × (r .second ≡ 0) → T (not (every (isUser caller ∷ isUser a ∷ hasRow (policyOf (lent rules kinds rights)) k ∷ isUser b ∷ []))) → Answers (lent rules kinds rights) s (revoke caller a k b) r s
     unfolding revokeOn
-    revoke-out r z o = own-refuses (lent rules kinds rights) s h (revoke caller a k b) _ revoke-is r 3 (omega arith) z (here o)
+    revoke-out r z o = own-refuses (lent rules kinds rights) s [] h (revoke caller a k b) _ revoke-is r 3 (omega arith) z (here o)
 
     module _ (in₀ : caller < 4096) (in₁ : a < 4096) (in₂ : k < length kinds / 7) (in₃ : b < 4096) (j : ℕ) (at : j ≡ firstPlace (sameCertificate (record { appointee = a; kind = k; appointer = b })) (decode s .certificates)) where
       revoke-range : T (not (not (every (isUser caller ∷ isUser a ∷ hasRow (policyOf (lent rules kinds rights)) k ∷ isUser b ∷ []))))
@@ -177,7 +177,7 @@ module _ (rules kinds rights s : List ℕ) (h : Sound (lent rules kinds rights) 
       pub revoke-none : (r : Answer) → (r .code ≡ 9) × (r .second ≡ 0) → certificateCount s ≤ j → Answers (lent rules kinds rights) s (revoke caller a k b) r s
       unfolding revokeOn
       revoke-none r z l =
-          own-refuses (lent rules kinds rights) s h (revoke caller a k b) _ revoke-is r 9 (omega arith) z
+          own-refuses (lent rules kinds rights) s [] h (revoke caller a k b) _ revoke-is r 9 (omega arith) z
           (later revoke-range (here (of-false (stands (decode s) (record { appointee = a; kind = k; appointer = b })) (not-found (sameCertificate (record { appointee = a; kind = k; appointer = b })) (decode s .certificates) (omega (arith, certificate-length s))))))
 
       module _ (l : j < certificateCount s) where
@@ -186,12 +186,12 @@ module _ (rules kinds rights s : List ℕ) (h : Sound (lent rules kinds rights) 
 
         pub revoke-forbidden : (r : Answer) → (r .code ≡ 10) × (r .second ≡ 0) → mayRevoke (decode s .rows) (kindNumbered (policyOf (without-rights [] kinds)) k) caller b ≡ false → Answers (lent rules kinds rights) s (revoke caller a k b) r s
         unfolding revokeOn policyOf
-        revoke-forbidden r z e = own-refuses (lent rules kinds rights) s h (revoke caller a k b) _ revoke-is r 10 (omega arith) z (later revoke-range (later (found _ revoke-stands) (here (of-false _ e))))
+        revoke-forbidden r z e = own-refuses (lent rules kinds rights) s [] h (revoke caller a k b) _ revoke-is r 10 (omega arith) z (later revoke-range (later (found _ revoke-stands) (here (of-false _ e))))
 
         pub revoke-done : (r : Answer) (s′ : List ℕ) → mayRevoke (decode s .rows) (kindNumbered (policyOf (without-rights [] kinds)) k) caller b ≡ true → r .code ≡ 0 → Fallen rules kinds (withCertificates (decode s) (take j (decode s .certificates) ++ drop (suc j) (decode s .certificates))) s′ (r .second) → Answers (lent rules kinds rights) s (revoke caller a k b) r s′
         unfolding revokeOn settled policyOf
         revoke-done r s′ e z f =
-            own-accepts (lent rules kinds rights) s h (revoke caller a k b) _ revoke-is r s′ z
+            own-accepts (lent rules kinds rights) s [] h (revoke caller a k b) _ revoke-is r s′ [] z
             (later revoke-range (later (found _ revoke-stands) (later (found _ e) none)))
             (taken-second (record { appointee = a; kind = k; appointer = b }) j at l s′ (r .second) f) (taken-state (record { appointee = a; kind = k; appointer = b }) j at l s′ (r .second) f) refl
 
@@ -204,7 +204,7 @@ module _ (rules kinds rights s : List ℕ) (h : Sound (lent rules kinds rights) 
 
     pub environment-out : (r : Answer) → (r .code ≡ 3) × (r .second ≡ 0) → T (not (every (ltb f facts ∷ isBit v ∷ []))) → Answers (lent rules kinds rights) s (environment f v) r s
     unfolding environmentOn
-    environment-out r z o = own-refuses (lent rules kinds rights) s h (environment f v) _ environment-is r 3 (omega arith) z (here o)
+    environment-out r z o = own-refuses (lent rules kinds rights) s [] h (environment f v) _ environment-is r 3 (omega arith) z (here o)
 
     pub fact-set-fits : v ≤ 1 → Fits (withFact (decode s) f v)
     fact-set-fits l = fact-fits (decode s) f v (sound-decode (policyOf (lent rules kinds rights)) s (h .state) .fits) (le→leb v 1 l)
@@ -212,7 +212,7 @@ module _ (rules kinds rights s : List ℕ) (h : Sound (lent rules kinds rights) 
     pub environment-done : (r : Answer) (s′ : List ℕ) → f < 64 → v ≤ 1 → r .code ≡ 0 → Fallen rules kinds (withFact (decode s) f v) s′ (r .second) → Answers (lent rules kinds rights) s (environment f v) r s′
     unfolding environmentOn settled
     environment-done r s′ a b z e =
-        own-accepts (lent rules kinds rights) s h (environment f v) _ environment-is r s′ z (later (in-range (ltb f facts ∷ isBit v ∷ []) (lt→ltb f 64 a, (le→leb v 1 b, tt))) none)
+        own-accepts (lent rules kinds rights) s [] h (environment f v) _ environment-is r s′ [] z (later (in-range (ltb f facts ∷ isBit v ∷ []) (lt→ltb f 64 a, (le→leb v 1 b, tt))) none)
         (omega (arith, e .count, ap length (same-fall rules kinds rights (withFact (decode s) f v))))
         (e .state ∙ ap (λ (rows : List Row). encode (withRows (withFact (decode s) f v) rows)) (same-fall rules kinds rights (withFact (decode s) f v))) refl
 
@@ -223,8 +223,8 @@ module _ (rules kinds rights s : List ℕ) (h : Sound (lent rules kinds rights) 
 
     pub logout-out : (r : Answer) → (r .code ≡ 3) × (r .second ≡ 0) → 4096 ≤ u → Answers (lent rules kinds rights) s (logout u) r s
     unfolding logoutOn
-    logout-out r z l = own-refuses (lent rules kinds rights) s h (logout u) _ logout-is r 3 (omega arith) z (here (out-of-range (isUser u ∷ []) 0 (le-ltb u 4096 l)))
+    logout-out r z l = own-refuses (lent rules kinds rights) s [] h (logout u) _ logout-is r 3 (omega arith) z (here (out-of-range (isUser u ∷ []) 0 (le-ltb u 4096 l)))
 
     pub logout-done : (r : Answer) (s′ : List ℕ) → u < 4096 → r .code ≡ 0 → Left s s′ (without (ofUser u) (decode s .rows)) (r .second) → Answers (lent rules kinds rights) s (logout u) r s′
     unfolding logoutOn
-    logout-done r s′ a z e = own-accepts (lent rules kinds rights) s h (logout u) _ logout-is r s′ z (later (in-range (isUser u ∷ []) (lt→ltb u 4096 a, tt)) none) (omega (arith, e .count)) (e .state) refl
+    logout-done r s′ a z e = own-accepts (lent rules kinds rights) s [] h (logout u) _ logout-is r s′ [] z (later (in-range (isUser u ∷ []) (lt→ltb u 4096 a, tt)) none) (omega (arith, e .count)) (e .state) refl

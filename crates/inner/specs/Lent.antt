@@ -14,9 +14,13 @@ use Rattle.table.specs.Entries.{without-rights}
 use Rattle.model.specs.declared.Row.{Row}
 use Rattle.model.specs.declared.Answer.{Answer}
 
--- the call answers r and leaves the state s′: code, second number and every number of the state
+-- the call, lent this list, answers r and leaves the state s′ and the list list′: code, second number and every number of both
+abbrev pub AnswersWith : Tables → List ℕ → List ℕ → Call → Answer → List ℕ → List ℕ → Type 0
+AnswersWith t s list c r s′ list′ = Keeps (answer t s list c) (r .code) (r .second) s′ list′
+
+-- the same of a call that is lent no list
 abbrev pub Answers : Tables → List ℕ → Call → Answer → List ℕ → Type 0
-Answers t s c r s′ = Keeps (answer t s [] c) (r .code) (r .second) s′ []
+Answers t s c r s′ = AnswersWith t s [] c r s′ []
 
 -- the state v with what is left of its rows, as numbers; `lost` is the rows lost
 abbrev pub fallenRows : List ℕ → List ℕ → State → List Row

@@ -1,3 +1,6 @@
 pub mod Invoking
 pub mod Reaching
 pub mod Telling
+pub mod Stepping
+pub mod Chaining
+pub mod Listing

@@ -72,7 +72,7 @@ module _ (s : List ℕ) (u q : ℕ) where
       go false h = omega arith
 
 -- the rows up to k, with row k behind them
-rows-more : (s : List ℕ) (k : ℕ) → firstRows s (suc k) ≡ firstRows s k ++ (rowAt s k ∷ [])
+pub rows-more : (s : List ℕ) (k : ℕ) → firstRows s (suc k) ≡ firstRows s k ++ (rowAt s k ∷ [])
 unfolding firstRows rowAt
 rows-more s k = ap (λ (n : ℕ). firstRows s n) (sym (add-one k)) ∙ entries-more rowFrom 3 (rowNumbers s) k
 
@@ -127,7 +127,7 @@ module _ (kinds : List ℕ) (c : ℕ) where
 
 -- ── what a row asks ──
 
-roles-same : (p₁ p₂ : Policy) → p₁ .kinds ≡ p₂ .kinds → (c : Condition) → rolesAsked p₁ c ≡ rolesAsked p₂ c
+pub roles-same : (p₁ p₂ : Policy) → p₁ .kinds ≡ p₂ .kinds → (c : Condition) → rolesAsked p₁ c ≡ rolesAsked p₂ c
 unfolding rolesAsked
 roles-same p₁ p₂ e (role q) = refl
 roles-same p₁ p₂ e (kind k) = ap (λ (ks : List Kind). prerequisiteRoles (getD ks k noKind)) e

@@ -29,20 +29,20 @@ module _ (rules kinds rights s : List ℕ) (h : Sound (lent rules kinds rights) 
 
   pub effective-out : (r : Answer) → (r .code ≡ 3) × (r .second ≡ 0) → T (not (every (isUser u ∷ isRole q ∷ isPrivilege x ∷ []))) → Answers (lent rules kinds rights) s (effective u q x) r s
   unfolding effectiveOn
-  effective-out r z o = own-refuses (lent rules kinds rights) s h (effective u q x) _ effective-is r 3 (omega arith) z (here o)
+  effective-out r z o = own-refuses (lent rules kinds rights) s [] h (effective u q x) _ effective-is r 3 (omega arith) z (here o)
 
   module _ (in₁ : u < 4096) (in₂ : q < 256) (in₃ : x < 1024) (k : ℕ) (all : k ≡ rowCount s) where
     pub effective-inactive : (r : Answer) → (r .code ≡ 12) × (r .second ≡ 0) → newest s u q k ≡ 0 → Answers (lent rules kinds rights) s (effective u q x) r s
     unfolding effectiveOn
     effective-inactive r z e =
-        own-refuses (lent rules kinds rights) s h (effective u q x) _ effective-is r 12 (omega arith) z
+        own-refuses (lent rules kinds rights) s [] h (effective u q x) _ effective-is r 12 (omega arith) z
         (later (in-range (isUser u ∷ isRole q ∷ isPrivilege x ∷ []) (lt→ltb u 4096 in₁, (lt→ltb q 256 in₂, (lt→ltb x 1024 in₃, tt)))) (here (of-false (active (decode s .rows) u q) (sym (active-now s k u q all) ∙ newest-active s u q k e))))
 
     -- the answer is 1 or 0 as the newest row for the role carries the privilege, and the state is what it was
     pub effective-told : (r : Answer) (b : Bool) (p : ℕ) → p ≡ newest s u q k → p ≢ 0 → r .code ≡ 0 → r .second ≡ cond b 1 0 → b ≡ rowReaches (lent rules kinds rights) s u x (p - 1) → Answers (lent rules kinds rights) s (effective u q x) r s
     unfolding effectiveOn effectively decode reachedIn firstRows
     effective-told r b p n some z e f =
-        own-accepts (lent rules kinds rights) s h (effective u q x) _ effective-is r s z
+        own-accepts (lent rules kinds rights) s [] h (effective u q x) _ effective-is r s [] z
         (later (in-range (isUser u ∷ isRole q ∷ isPrivilege x ∷ []) (lt→ltb u 4096 in₁, (lt→ltb q 256 in₂, (lt→ltb x 1024 in₃, tt)))) (later (found (active (decode s .rows) u q) (sym (active-now s k u q all) ∙ newest-some s u q k (λ w. some (n ∙ w)))) none))
         (e ∙ ap (λ (v : Bool). cond v 1 0) (f ∙ sym (reached-at (lent rules kinds rights) s u x k q p n some) ∙ ap (λ (m : ℕ). reachedIn (lent rules kinds rights) s u x m q) all))
         (sym (encode-decode s (sound-formed (policyOf (lent rules kinds rights)) s (h .state)))) refl

@@ -4,15 +4,15 @@ ghost use mathlib.Core.Bool.{_&&_};
 ghost use mathlib.Core.List.{[]};
 ghost use Prim.Native.Nat.{_<_, _≤_};
 ghost use lib.Dec.{eqb};
-ghost use lib.ListN.{length, take};
-ghost use Rattle.model.specs.Limits.{stateSize, mostRows};
+ghost use lib.ListN.{length, getD, take};
+ghost use Rattle.model.specs.Limits.{roles, stateSize, mostRows};
 ghost use Rattle.model.specs.Layout.{decode, policyOf};
-ghost use Rattle.model.specs.Conditions.{meant, rolesAsked};
+ghost use Rattle.model.specs.Conditions.{meant, rolesAsked, restsOn};
 ghost use Rattle.model.specs.Effective.{direct};
-ghost use Rattle.model.specs.Calls.{invoke as invokeCall, effective as effectiveCall, allowed};
+ghost use Rattle.model.specs.Calls.{invoke as invokeCall, effective as effectiveCall, chain as chainCall, allowed};
 ghost use Rattle.model.specs.Words.{Sound};
 ghost use Rattle.table.specs.Entries.{Sized, without-rights};
-ghost use Rattle.inner.specs.Lent.{lent, Answers};
+ghost use Rattle.inner.specs.Lent.{lent, Answers, AnswersWith};
 ghost use Rattle.query.specs.Reached.{newest, conditionReaches, rowReaches, Clean};
 use model::Answer;
 use model::Right;
@@ -25,6 +25,8 @@ const ROLES: u16 = 256;
 const PRIVILEGES: u16 = 1024;
 
 const ROW_COUNT: usize = 64;
+
+const LIST_SIZE: usize = 256;
 
 const RIGHT_WIDTH: usize = 2;
 
@@ -265,4 +267,64 @@ pub fn effective(
         return Answer { code: 0, second: 1 };
     }
     inner::refused(0)
+}
+
+// The first role that the row rests on, or 256 where it rests on none.
+fn next_role(rules: &[u16], kinds: &[u16], row: Row) -> u16
+    ensures { λ r. ⌜ r ≡ getD (restsOn (policyOf (without-rights (now (rules .entry)) (now (kinds .entry)))) row) 0 roles ⌝ }
+{
+    let rule = table::rule_numbered(rules, table::wide(row.rule));
+    let conditions = rule.conditions;
+    let m = table::least(table::wide(rule.m), 8);
+    let mut i: usize = 0;
+    while i < m {
+        let asked = roles_asked(kinds, conditions[i]);
+        let named = asked.roles;
+        if 0 < asked.count {
+            return named[0];
+        }
+        i += 1;
+    }
+    ROLES
+}
+
+// A row rests on earlier rows, so no role is written twice and the list has room for all.
+pub fn chain(
+    rules: &[u16],
+    kinds: &[u16],
+    rights: &[u16],
+    state: &[u16],
+    user: u16,
+    role: u16,
+    list: &mut [u16],
+) -> Answer
+    requires { ⌜ Sound (lent (now rules) (now kinds) (now rights)) (now state) ⌝ }
+    ensures { λ r. ⌜ AnswersWith (lent (now (rules .entry)) (now (kinds .entry)) (now (rights .entry))) (now (state .entry)) (now (list .entry)) (chainCall user role) r (now (state .entry)) (now (list .exit)) ⌝ }
+{
+    if USERS <= user {
+        return inner::refused(3);
+    }
+    if ROLES <= role {
+        return inner::refused(3);
+    }
+    if list.len() != LIST_SIZE {
+        return inner::refused(3);
+    }
+    let mut k = table::wide(state[ROW_COUNT]);
+    if !table::is_active(state, k, user, role) {
+        return inner::refused(12);
+    }
+    let mut q = role;
+    let mut n: usize = 0;
+    while q < ROLES {
+        k = newest_row(state, k, user, q) - 1;
+        list[n] = q;
+        n += 1;
+        q = next_role(rules, kinds, table::row_at(state, k));
+    }
+    fall::zero(list, n, LIST_SIZE);
+    Answer {
+        code: 0,
+        second: n as u16,
+    }
 }
