@@ -1,8 +1,8 @@
 // The public calls: any tables, any numbers. Each judges policy and state and then is the call on sound tables.
 ghost use mathlib.Core.Path.{_≡_};
 ghost use mathlib.Core.List.{[]};
-ghost use Rattle.model.specs.Calls.{fresh as freshCall, activate as activateCall, appoint as appointCall, revoke as revokeCall, withdraw as withdrawCall, environment as environmentCall, logout as logoutCall, invoke as invokeCall};
-ghost use Rattle.inner.specs.Lent.{lent, Answers};
+ghost use Rattle.model.specs.Calls.{fresh as freshCall, activate as activateCall, appoint as appointCall, revoke as revokeCall, withdraw as withdrawCall, environment as environmentCall, logout as logoutCall, invoke as invokeCall, effective as effectiveCall, chain as chainCall};
+ghost use Rattle.inner.specs.Lent.{lent, Answers, AnswersWith};
 ghost use Rattle.calls.specs.Judgement.{judgement};
 use model::Answer;
 
@@ -154,4 +154,40 @@ pub fn invoke(
         return Answer { code, second: 0 };
     }
     query::invoke(rules, kinds, rights, state, user, privilege)
+}
+
+pub fn effective(
+    rules: &[u16],
+    kinds: &[u16],
+    rights: &[u16],
+    state: &[u16],
+    user: u16,
+    role: u16,
+    privilege: u16,
+) -> Answer
+    ensures { λ r. ⌜ Answers (lent (now (rules .entry)) (now (kinds .entry)) (now (rights .entry))) (now (state .entry)) (effectiveCall user role privilege) r (now (state .entry)) ⌝ }
+{
+    let code = judge(rules, kinds, rights, state);
+    if code != 0 {
+        return Answer { code, second: 0 };
+    }
+    query::effective(rules, kinds, rights, state, user, role, privilege)
+}
+
+pub fn chain(
+    rules: &[u16],
+    kinds: &[u16],
+    rights: &[u16],
+    state: &[u16],
+    user: u16,
+    role: u16,
+    list: &mut [u16],
+) -> Answer
+    ensures { λ r. ⌜ AnswersWith (lent (now (rules .entry)) (now (kinds .entry)) (now (rights .entry))) (now (state .entry)) (now (list .entry)) (chainCall user role) r (now (state .entry)) (now (list .exit)) ⌝ }
+{
+    let code = judge(rules, kinds, rights, state);
+    if code != 0 {
+        return Answer { code, second: 0 };
+    }
+    query::chain(rules, kinds, rights, state, user, role, list)
 }

@@ -1,0 +1,24 @@
+use mathlib.Core.Path.{refl}
+use Rattle.model.specs.Calls.{effective, courseOf}
+use Rattle.inner.specs.Lent.{lent}
+use mathlib.Core.List.{[]}
+use Rattle.calls.proofs.Judged.{unsound, judged-sound}
+use borrow.Author.Needs.{needs}
+use Rattle.calls.proofs.effective.Statement.{statement}
+use Rattle.calls.proofs.effective.Tie as tie
+
+judge-requires : tie.Need-judge-requires
+judge-requires c κs = search needs
+
+returns : tie.Need-returns
+unfolding courseOf
+returns c = unsound (lent (c .before .before .before .before .before .before .args .rules .now) (c .before .before .before .before .before .before .args .kinds .now) (c .before .before .before .before .before .before .args .rights .now)) (c .before .before .before .before .before .before .args .state .now) [] _ _ refl _ refl (c .if1 .taken) (c .before .judge .ensures)
+
+effective-requires : tie.Need-effective-requires
+effective-requires c κs = judged-sound (lent (c .before .before .before .before .before .before .args .rules .now) (c .before .before .before .before .before .before .args .kinds .now) (c .before .before .before .before .before .before .args .rights .now)) (c .before .before .before .before .before .before .args .state .now) _ (c .if1 .left) (c .before .judge .ensures)
+
+returns-2 : tie.Need-returns-2
+returns-2 c = c .effective .ensures
+
+pub effective-spec : {M : Type 1} → statement M
+effective-spec = tie.close (tie.spec judge-requires returns effective-requires returns-2)
