@@ -26,8 +26,8 @@ module _ (rules kinds rights s : List ℕ) (h : Sound (lent rules kinds rights) 
   invoke-out r z o = own-refuses (lent rules kinds rights) s [] h (invoke u x) _ invoke-is r 3 (omega arith) z (here o)
 
   -- the answer is 1 or 0 as an active role carries the privilege, and the state is what it was
-  pub invoke-told : (r : Answer) (b : Bool) → u < 4096 → x < 1024 → r .code ≡ 0 → r .second ≡ cond b 1 0 → b ≡ allowed (policyOf (lent [] [] rights)) (decode s .rows) u x → Answers (lent rules kinds rights) s (invoke u x) r s
+  pub invoke-told : (r : Answer) (b : Bool) → u < 4096 → x < 1024 → (r .code ≡ 0) × (r .second ≡ cond b 1 0) → b ≡ allowed (policyOf (lent [] [] rights)) (decode s .rows) u x → Answers (lent rules kinds rights) s (invoke u x) r s
   unfolding invokeOn allowed direct policyOf
-  invoke-told r b in₁ in₂ z e f =
-      own-accepts (lent rules kinds rights) s [] h (invoke u x) _ invoke-is r s [] z (later (in-range (isUser u ∷ isPrivilege x ∷ []) (lt→ltb u 4096 in₁, (lt→ltb x 1024 in₂, tt))) none)
-      (e ∙ ap (λ (v : Bool). cond v 1 0) f) (sym (encode-decode s (sound-formed (policyOf (lent rules kinds rights)) s (h .state)))) refl
+  invoke-told r b in₁ in₂ z f =
+      own-accepts (lent rules kinds rights) s [] h (invoke u x) _ invoke-is r s [] (z .0) (later (in-range (isUser u ∷ isPrivilege x ∷ []) (lt→ltb u 4096 in₁, (lt→ltb x 1024 in₂, tt))) none)
+      (z .1 ∙ ap (λ (v : Bool). cond v 1 0) f) (sym (encode-decode s (sound-formed (policyOf (lent rules kinds rights)) s (h .state)))) refl

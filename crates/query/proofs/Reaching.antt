@@ -125,6 +125,11 @@ module _ (kinds : List ℕ) (c : ℕ) where
       go : (b : Bool) → rolesAsked (policyOf (without-rights [] kinds)) (cond b (fact (c - 384)) malformed) ≡ rolesAsked (policyOf (without-rights [] kinds)) (meant c) → [] ≡ rolesAsked (policyOf (without-rights [] kinds)) (meant c)
       go b e = fact-or-not b ∙ e
 
+-- ── the conditions of a row's own rule ──
+
+pub own-rule : (rules : List ℕ) (row : Row) (rule : Rule) (m : ℕ) → rule ≡ ruleNumbered (policyOf (without-rights rules [])) (row .rule) → length (rule .conditions) ≡ 8 → m ≡ min (rule .m) 8 → take m (rule .conditions) ≡ membership (ruleNumbered (policyOf (without-rights rules [])) (row .rule))
+own-rule rules row rule m e size least = ap (λ (n : ℕ). take n (rule .conditions)) least ∙ take-least (rule .m) 8 (rule .conditions) size ∙ ap membership e
+
 -- ── what a row asks ──
 
 pub roles-same : (p₁ p₂ : Policy) → p₁ .kinds ≡ p₂ .kinds → (c : Condition) → rolesAsked p₁ c ≡ rolesAsked p₂ c
@@ -204,33 +209,30 @@ module _ (rules kinds rights s : List ℕ) (u x : ℕ) where
   abbrev tables : Tables
   tables = lent rules kinds rights
 
-  -- the row's own rule, as code reads it
-  own-rule : (k m : ℕ) (row : Row) (rule : Rule) → row ≡ rowAt s k → rule ≡ ruleNumbered (policyOf (without-rights rules [])) (row .rule) → length (rule .conditions) ≡ 8 → m ≡ min (rule .m) 8
-      → take m (rule .conditions) ≡ membership (ruleNumbered (policyOf tables) (rowAt s k .rule))
+  -- the row's own membership conditions, as code reads them
+  own-conditions : (k m : ℕ) (row : Row) (cs : List ℕ) → row ≡ rowAt s k → take m cs ≡ membership (ruleNumbered (policyOf (without-rights rules [])) (row .rule)) → take m cs ≡ membership (ruleNumbered (policyOf tables) (rowAt s k .rule))
   unfolding policyOf
-  own-rule k m row rule e f size least =
-      ap (λ (n : ℕ). take n (rule .conditions)) least ∙ take-least (rule .m) 8 (rule .conditions) size ∙ ap membership f ∙ ap (λ (r : Row). membership (ruleNumbered (policyOf tables) (r .rule))) e
+  own-conditions k m row cs e f = f ∙ ap (λ (r : Row). membership (ruleNumbered (policyOf tables) (r .rule))) e
 
   pub row-own : (k : ℕ) (row : Row) → row ≡ rowAt s k → direct (policyOf (lent [] [] rights)) (row .role) x ≡ true → true ≡ rowReaches tables s u x k
   unfolding rowReaches direct policyOf
   row-own k row e d = sym (ap (λ (b : Bool). b || any (reachedIn tables s u x k) (restsOn (policyOf tables) (rowAt s k))) (ap (λ (r : Row). direct (policyOf tables) (r .role) x) (sym e) ∙ d))
 
-  pub row-hit : (k m i : ℕ) (row : Row) (rule : Rule) → row ≡ rowAt s k → rule ≡ ruleNumbered (policyOf (without-rights rules [])) (row .rule) → length (rule .conditions) ≡ 8 → m ≡ min (rule .m) 8 → i < m
-      → conditionReaches tables s u x k (getD (rule .conditions) i 0) ≡ true → true ≡ rowReaches tables s u x k
-  row-hit k m i row rule e f size least h c =
-      let some : any (conditionReaches tables s u x k) (take m (rule .conditions)) ≡ true = any-take-hit (conditionReaches tables s u x k) (rule .conditions) 0 m i h (omega arith) c in
-      sym (row-conditions tables s u x k ∙ or-right (direct (policyOf tables) (rowAt s k .role) x) (any (conditionReaches tables s u x k) (membership (ruleNumbered (policyOf tables) (rowAt s k .rule)))) (ap (any (conditionReaches tables s u x k)) (sym (own-rule k m row rule e f size least)) ∙ some))
+  pub row-hit : (k m i : ℕ) (row : Row) (cs : List ℕ) → row ≡ rowAt s k → take m cs ≡ membership (ruleNumbered (policyOf (without-rights rules [])) (row .rule)) → i < m → i < length cs → conditionReaches tables s u x k (getD cs i 0) ≡ true → true ≡ rowReaches tables s u x k
+  row-hit k m i row cs e f h l c =
+      let some : any (conditionReaches tables s u x k) (take m cs) ≡ true = any-take-hit (conditionReaches tables s u x k) cs 0 m i h l c in
+      sym (row-conditions tables s u x k ∙ or-right (direct (policyOf tables) (rowAt s k .role) x) (any (conditionReaches tables s u x k) (membership (ruleNumbered (policyOf tables) (rowAt s k .rule)))) (ap (any (conditionReaches tables s u x k)) (sym (own-conditions k m row cs e f)) ∙ some))
     where
       or-right : (a b : Bool) → b ≡ true → (a || b) ≡ true
       or-right true b q = refl
       or-right false b q = q
 
-  pub row-none : (k m i : ℕ) (row : Row) (rule : Rule) → row ≡ rowAt s k → rule ≡ ruleNumbered (policyOf (without-rights rules [])) (row .rule) → length (rule .conditions) ≡ 8 → m ≡ min (rule .m) 8 → i ≤ m → m ≤ i
-      → direct (policyOf (lent [] [] rights)) (row .role) x ≡ false → any (conditionReaches tables s u x k) (take i (rule .conditions)) ≡ false → rowReaches tables s u x k ≡ false
+  pub row-none : (k m i : ℕ) (row : Row) (cs : List ℕ) → row ≡ rowAt s k → take m cs ≡ membership (ruleNumbered (policyOf (without-rights rules [])) (row .rule)) → i ≤ m → m ≤ i
+      → direct (policyOf (lent [] [] rights)) (row .role) x ≡ false → any (conditionReaches tables s u x k) (take i cs) ≡ false → rowReaches tables s u x k ≡ false
   unfolding direct policyOf
-  row-none k m i row rule e f size least h₁ h₂ d c =
+  row-none k m i row cs e f h₁ h₂ d c =
       let at : i ≡ m = omega arith in
-      let none : any (conditionReaches tables s u x k) (membership (ruleNumbered (policyOf tables) (rowAt s k .rule))) ≡ false = ap (any (conditionReaches tables s u x k)) (sym (own-rule k m row rule e f size least) ∙ ap (λ (n : ℕ). take n (rule .conditions)) (sym at)) ∙ c in
+      let none : any (conditionReaches tables s u x k) (membership (ruleNumbered (policyOf tables) (rowAt s k .rule))) ≡ false = ap (any (conditionReaches tables s u x k)) (sym (own-conditions k m row cs e f) ∙ ap (λ (n : ℕ). take n cs) (sym at)) ∙ c in
       row-conditions tables s u x k ∙ (λ j. (ap (λ (r : Row). direct (policyOf tables) (r .role) x) (sym e) ∙ d) j || none j)
 
   -- the condition's roles, as code reads them

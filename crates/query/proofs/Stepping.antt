@@ -1,5 +1,5 @@
 -- The first role that a row rests on: what code finds condition by condition is the model's.
-use Prim.Native.Nat.{ℕ, zero, suc, _+_, _≤_, _<_, min}
+use Prim.Native.Nat.{ℕ, zero, suc, _+_, _≤_, _<_}
 use mathlib.Core.Path.{_≡_, refl, sym, ap, _∙_, subst}
 use mathlib.Core.List.{List, [], _∷_, _++_, append-assoc}
 use native.Mathlib.Omega.{arith}
@@ -7,13 +7,10 @@ use native.Mathlib.Numerals.{add-one}
 use lib.ListN.{length, getD, take}
 use lib.Seq.{take-suc}
 use Rattle.model.specs.Lists.{joined}
-use Rattle.model.specs.Records.{Policy}
 use Rattle.model.specs.Layout.{policyOf}
-use Rattle.model.specs.Conditions.{meant, membership, ruleNumbered, noRule, rolesAsked, restsOn}
+use Rattle.model.specs.Conditions.{meant, membership, ruleNumbered, rolesAsked, restsOn}
 use Rattle.model.specs.declared.Row.{Row}
-use Rattle.model.specs.declared.Rule.{Rule}
 use Rattle.table.specs.Entries.{without-rights}
-use Rattle.table.proofs.Worlds.{take-least}
 use Rattle.inner.specs.Lent.{lent}
 use Rattle.query.proofs.Reaching.{roles-same}
 
@@ -52,34 +49,33 @@ module _ {A B : Type 0} (f : A → List B) where
       let parts : (f x ≡ []) × (joined f (take i l) ≡ []) = empty-parts (f x) (joined f (take i l)) e in
       ap (λ (w : List B). getD (w ++ joined f (take n l)) 0 o) (parts .0) ∙ joined-head l d o n i (omega arith) (omega arith) (parts .1) z
 
--- ── the row's own rule ──
+-- ── the row's own membership conditions ──
 
-module _ (rules kinds : List ℕ) (row : Row) (rule : Rule) (e : rule ≡ ruleNumbered (policyOf (without-rights rules [])) (row .rule)) (size : length (rule .conditions) ≡ 8) (m : ℕ) (least : m ≡ min (rule .m) 8) where
+module _ (rules kinds : List ℕ) (row : Row) (cs : List ℕ) (m : ℕ) (own : take m cs ≡ membership (ruleNumbered (policyOf (without-rights rules [])) (row .rule))) where
   abbrev asks : ℕ → List ℕ
   asks c = rolesAsked (policyOf (without-rights [] kinds)) (meant c)
 
-  rests : restsOn (policyOf (without-rights rules kinds)) row ≡ joined asks (take m (rule .conditions))
+  rests : restsOn (policyOf (without-rights rules kinds)) row ≡ joined asks (take m cs)
   unfolding restsOn policyOf
   rests =
       (λ j. joined (λ (c : ℕ). roles-same (policyOf (without-rights rules kinds)) (policyOf (without-rights [] kinds)) refl (meant c) j) (membership (ruleNumbered (policyOf (without-rights rules [])) (row .rule))))
-      ∙ ap (λ (r : Rule). joined asks (membership r)) (sym e)
-      ∙ ap (joined asks) (sym (ap (λ (n : ℕ). take n (rule .conditions)) least ∙ take-least (rule .m) 8 (rule .conditions) size))
+      ∙ ap (joined asks) (sym own)
 
   -- a condition that asks for no role is passed over
-  pub step-more : (i n : ℕ) (roles : List ℕ) → i < m → joined asks (take i (rule .conditions)) ≡ [] → take n roles ≡ asks (getD (rule .conditions) i 0) → n ≤ 0 → joined asks (take (i + 1) (rule .conditions)) ≡ []
-  step-more i zero roles h a b z = joined-next asks (rule .conditions) 0 i (omega arith) a (sym b)
+  pub step-more : (i n : ℕ) (roles : List ℕ) → i < length cs → joined asks (take i cs) ≡ [] → take n roles ≡ asks (getD cs i 0) → n ≤ 0 → joined asks (take (i + 1) cs) ≡ []
+  step-more i zero roles h a b z = joined-next asks cs 0 i h a (sym b)
   step-more i (suc n) roles h a b z = absurd (omega arith)
 
   -- the first that asks for one gives it
-  pub step-found : (i n : ℕ) (roles : List ℕ) → i < m → joined asks (take i (rule .conditions)) ≡ [] → take n roles ≡ asks (getD (rule .conditions) i 0) → 0 < n → 0 < length roles → getD roles 0 0 ≡ getD (restsOn (policyOf (without-rights rules kinds)) row) 0 256
-  step-found i n roles h a b z k =
-      let head : (0 < length (asks (getD (rule .conditions) i 0))) × (getD (asks (getD (rule .conditions) i 0)) 0 256 ≡ getD roles 0 0) = head-taken n roles (asks (getD (rule .conditions) i 0)) 256 0 b z k in
-      sym (ap (λ (l : List ℕ). getD l 0 256) rests ∙ joined-head asks (rule .conditions) 0 256 m i h (omega arith) a (head .0) ∙ head .1)
+  pub step-found : (i n : ℕ) (roles : List ℕ) → i < m → i < length cs → joined asks (take i cs) ≡ [] → take n roles ≡ asks (getD cs i 0) → 0 < n → 0 < length roles → getD roles 0 0 ≡ getD (restsOn (policyOf (without-rights rules kinds)) row) 0 256
+  step-found i n roles h l a b z k =
+      let head : (0 < length (asks (getD cs i 0))) × (getD (asks (getD cs i 0)) 0 256 ≡ getD roles 0 0) = head-taken n roles (asks (getD cs i 0)) 256 0 b z k in
+      sym (ap (λ (w : List ℕ). getD w 0 256) rests ∙ joined-head asks cs 0 256 m i h l a (head .0) ∙ head .1)
 
-  pub step-none : (i : ℕ) → i ≤ m → m ≤ i → joined asks (take i (rule .conditions)) ≡ [] → 256 ≡ getD (restsOn (policyOf (without-rights rules kinds)) row) 0 256
+  pub step-none : (i : ℕ) → i ≤ m → m ≤ i → joined asks (take i cs) ≡ [] → 256 ≡ getD (restsOn (policyOf (without-rights rules kinds)) row) 0 256
   step-none i h k a =
       let at : m ≡ i = omega arith in
-      sym (ap (λ (l : List ℕ). getD l 0 256) (rests ∙ ap (λ (n : ℕ). joined asks (take n (rule .conditions))) at ∙ a))
+      sym (ap (λ (w : List ℕ). getD w 0 256) (rests ∙ ap (λ (n : ℕ). joined asks (take n cs)) at ∙ a))
 
 -- what a row rests on reads no rights
 pub rests-same : (rules kinds rights : List ℕ) (row : Row) → restsOn (policyOf (without-rights rules kinds)) row ≡ restsOn (policyOf (lent rules kinds rights)) row

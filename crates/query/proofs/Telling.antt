@@ -39,10 +39,10 @@ module _ (rules kinds rights s : List ℕ) (h : Sound (lent rules kinds rights) 
         (later (in-range (isUser u ∷ isRole q ∷ isPrivilege x ∷ []) (lt→ltb u 4096 in₁, (lt→ltb q 256 in₂, (lt→ltb x 1024 in₃, tt)))) (here (of-false (active (decode s .rows) u q) (sym (active-now s k u q all) ∙ newest-active s u q k e))))
 
     -- the answer is 1 or 0 as the newest row for the role carries the privilege, and the state is what it was
-    pub effective-told : (r : Answer) (b : Bool) (p : ℕ) → p ≡ newest s u q k → p ≢ 0 → r .code ≡ 0 → r .second ≡ cond b 1 0 → b ≡ rowReaches (lent rules kinds rights) s u x (p - 1) → Answers (lent rules kinds rights) s (effective u q x) r s
+    pub effective-told : (r : Answer) (b : Bool) (p : ℕ) → p ≡ newest s u q k → p ≢ 0 → (r .code ≡ 0) × (r .second ≡ cond b 1 0) → b ≡ rowReaches (lent rules kinds rights) s u x (p - 1) → Answers (lent rules kinds rights) s (effective u q x) r s
     unfolding effectiveOn effectively decode reachedIn firstRows
-    effective-told r b p n some z e f =
-        own-accepts (lent rules kinds rights) s [] h (effective u q x) _ effective-is r s [] z
+    effective-told r b p n some z f =
+        own-accepts (lent rules kinds rights) s [] h (effective u q x) _ effective-is r s [] (z .0)
         (later (in-range (isUser u ∷ isRole q ∷ isPrivilege x ∷ []) (lt→ltb u 4096 in₁, (lt→ltb q 256 in₂, (lt→ltb x 1024 in₃, tt)))) (later (found (active (decode s .rows) u q) (sym (active-now s k u q all) ∙ newest-some s u q k (λ w. some (n ∙ w)))) none))
-        (e ∙ ap (λ (v : Bool). cond v 1 0) (f ∙ sym (reached-at (lent rules kinds rights) s u x k q p n some) ∙ ap (λ (m : ℕ). reachedIn (lent rules kinds rights) s u x m q) all))
+        (z .1 ∙ ap (λ (v : Bool). cond v 1 0) (f ∙ sym (reached-at (lent rules kinds rights) s u x k q p n some) ∙ ap (λ (m : ℕ). reachedIn (lent rules kinds rights) s u x m q) all))
         (sym (encode-decode s (sound-formed (policyOf (lent rules kinds rights)) s (h .state)))) refl

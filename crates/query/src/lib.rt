@@ -1,13 +1,13 @@
 // The calls that only ask, on sound tables, for code that can show that they are sound. Each equals the model's call.
 ghost use mathlib.Core.Path.{_≡_};
-ghost use mathlib.Core.Bool.{_&&_};
+ghost use mathlib.Core.Bool.{_&&_, cond};
 ghost use mathlib.Core.List.{[]};
 ghost use Prim.Native.Nat.{_<_, _≤_};
 ghost use lib.Dec.{eqb};
 ghost use lib.ListN.{length, getD, take};
 ghost use Rattle.model.specs.Limits.{roles, stateSize, mostRows};
 ghost use Rattle.model.specs.Layout.{decode, policyOf};
-ghost use Rattle.model.specs.Conditions.{meant, rolesAsked, restsOn};
+ghost use Rattle.model.specs.Conditions.{meant, membership, ruleNumbered, rolesAsked, restsOn};
 ghost use Rattle.model.specs.Effective.{direct};
 ghost use Rattle.model.specs.Calls.{invoke as invokeCall, effective as effectiveCall, chain as chainCall, allowed};
 ghost use Rattle.model.specs.Words.{Sound};
@@ -29,6 +29,16 @@ const ROW_COUNT: usize = 64;
 const LIST_SIZE: usize = 256;
 
 const RIGHT_WIDTH: usize = 2;
+
+// Accepted, with 1 or 0.
+fn told(so: bool) -> Answer
+    ensures { λ r. ⌜ (r .code ≡ 0) × (r .second ≡ cond so 1 0) ⌝ }
+{
+    if so {
+        return Answer { code: 0, second: 1 };
+    }
+    inner::refused(0)
+}
 
 // The right is one of the role to the privilege.
 fn right_is(right: Right, role: u16, privilege: u16) -> bool
@@ -98,10 +108,7 @@ pub fn invoke(
     if PRIVILEGES <= privilege {
         return inner::refused(3);
     }
-    if may_invoke(rights, state, user, privilege) {
-        return Answer { code: 0, second: 1 };
-    }
-    inner::refused(0)
+    told(may_invoke(rights, state, user, privilege))
 }
 
 // The roles that a condition asks for: the first `count` of four.
@@ -131,6 +138,22 @@ fn roles_asked(kinds: &[u16], condition: u16) -> Asked
         count: 0,
         roles: [0, 0, 0, 0],
     }
+}
+
+// The membership conditions of the row's own rule: the first `count` of eight.
+pub struct Membership {
+    pub count: usize,
+    pub conditions: [u16; 8],
+}
+
+fn membership_of(rules: &[u16], row: Row) -> Membership
+    ensures few { λ r. ⌜ r .count ≤ 8 ⌝ }
+    ensures own { λ r. ⌜ take (r .count) (r .conditions) ≡ membership (ruleNumbered (policyOf (without-rights (now (rules .entry)) [])) (row .rule)) ⌝ }
+{
+    let rule = table::rule_numbered(rules, table::wide(row.rule));
+    let conditions = rule.conditions;
+    let count = table::least(table::wide(rule.m), 8);
+    Membership { count, conditions }
 }
 
 // The newest of the first k rows in which the user is active in the role: one more than its place, or 0 where there is none.
@@ -170,9 +193,9 @@ fn row_reaches(
     if has_right(rights, row.role, privilege) {
         return true;
     }
-    let rule = table::rule_numbered(rules, table::wide(row.rule));
-    let conditions = rule.conditions;
-    let m = table::least(table::wide(rule.m), 8);
+    let own = membership_of(rules, row);
+    let conditions = own.conditions;
+    let m = own.count;
     let mut i: usize = 0;
     while i < m {
         let condition = conditions[i];
@@ -254,7 +277,7 @@ pub fn effective(
         return inner::refused(12);
     }
     let mut seen = [0u16; 256];
-    if row_reaches(
+    told(row_reaches(
         rules,
         kinds,
         rights,
@@ -263,19 +286,16 @@ pub fn effective(
         p - 1,
         user,
         privilege,
-    ) {
-        return Answer { code: 0, second: 1 };
-    }
-    inner::refused(0)
+    ))
 }
 
 // The first role that the row rests on, or 256 where it rests on none.
 fn next_role(rules: &[u16], kinds: &[u16], row: Row) -> u16
     ensures { λ r. ⌜ r ≡ getD (restsOn (policyOf (without-rights (now (rules .entry)) (now (kinds .entry)))) row) 0 roles ⌝ }
 {
-    let rule = table::rule_numbered(rules, table::wide(row.rule));
-    let conditions = rule.conditions;
-    let m = table::least(table::wide(rule.m), 8);
+    let own = membership_of(rules, row);
+    let conditions = own.conditions;
+    let m = own.count;
     let mut i: usize = 0;
     while i < m {
         let asked = roles_asked(kinds, conditions[i]);

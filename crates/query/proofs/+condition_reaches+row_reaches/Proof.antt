@@ -1,14 +1,10 @@
 -- Two functions that call each other: a row asks its conditions about itself, a condition asks rows before it. So the place falls.
 use Prim.Native.Nat.{ℕ, _+_, _-_, _*_, _≤_, _<_}
-use mathlib.Core.Path.{_≡_, refl, sym, ap, _∙_}
+use mathlib.Core.Path.{_≡_, refl, sym, _∙_}
 use mathlib.Core.Bool.{false}
-use mathlib.Core.List.{[]}
 use native.Mathlib.Omega.{arith}
 use lib.ListN.{length, take, getD, length-set}
 use Rattle.model.specs.Lists.{any}
-use Rattle.model.specs.Layout.{policyOf}
-use Rattle.model.specs.Conditions.{ruleNumbered}
-use Rattle.table.specs.Entries.{without-rights}
 use Rattle.inner.specs.Lent.{lent}
 use Rattle.query.specs.Reached.{reachedIn, conditionReaches, rowReaches, Clean}
 use Rattle.query.proofs.Reaching.{any-take-next, newest-within, reached-none, reached-at, clean-set, row-own, row-hit, row-none, condition-hit, condition-none}
@@ -22,12 +18,10 @@ use Rattle.query.proofs.row_reaches.Reads as row-reaches
 use Rattle.query.proofs.row_reaches.Kinds as row-reaches-kinds
 use Rattle.query.proofs.+condition_reaches+row_reaches.Lts-row_reaches as row-reaches-lts
 use Rattle.query.proofs.has_right.Reads as has-right-reads
+use Rattle.query.proofs.membership_of.Reads as membership-of-reads
 use Rattle.query.proofs.newest_row.Reads as newest-row-reads
 use Rattle.query.proofs.roles_asked.Reads as roles-asked-reads
-use Rattle.table.proofs.least.Reads as least-reads
 use Rattle.table.proofs.row_at.Reads as row-at-reads
-use Rattle.table.proofs.rule_numbered.Reads as rule-numbered-reads
-use Rattle.table.proofs.wide.Reads as wide-reads
 use Rattle.query.proofs.+condition_reaches+row_reaches.{statement}
 use Rattle.query.proofs.+condition_reaches+row_reaches.Tie.{close}
 
@@ -66,7 +60,7 @@ abbrev calls-condition-reaches : ℕ → condition-reaches-lts.Claims
 calls-condition-reaches t = (roles-asked-reads.Asked, roles-asked-reads.Learnt, newest-row-reads.Asked, newest-row-reads.Learnt, row-reaches-below t, row-reaches.Post)
 
 abbrev calls-row-reaches : ℕ → row-reaches-lts.Claims
-calls-row-reaches t = (row-at-reads.Asked, row-at-reads.Learnt, has-right-reads.Asked, has-right-reads.Learnt, wide-reads.Asked, wide-reads.Learnt, rule-numbered-reads.Asked, rule-numbered-reads.Learnt, least-reads.Asked, least-reads.Learnt, condition-reaches-below t, condition-reaches.Post)
+calls-row-reaches t = (row-at-reads.Asked, row-at-reads.Learnt, has-right-reads.Asked, has-right-reads.Learnt, membership-of-reads.Asked, membership-of-reads.Learnt, condition-reaches-below t, condition-reaches.Post)
 
 abbrev condition-reaches-Inv-loop : condition-reaches-lts.InvT-loop
 condition-reaches-Inv-loop rules kinds rights state seen₀ k user privilege condition roles n j₀ seen j = (j ≤ n) × (length seen ≡ 256) × Clean (lent rules kinds rights) state user privilege seen × (any (reachedIn (lent rules kinds rights) state user privilege k) (take j roles) ≡ false)
@@ -212,44 +206,35 @@ row-reaches-has-right-requires t c κs = search needs
 row-reaches-returns-2 : (t : ℕ) → row-reaches-lts.Need-returns-2 (calls-row-reaches t) (row-reaches-at t) row-reaches.Post row-reaches-Inv-loop row-reaches-μ-loop
 row-reaches-returns-2 t c = (row-own (c .before .before .before .before .before .before .before .before .before .before .args .rules .now) (c .before .before .before .before .before .before .before .before .before .before .args .kinds .now) (c .before .before .before .before .before .before .before .before .before .before .args .rights .now) (c .before .before .before .before .before .before .before .before .before .before .args .state .now) (c .before .before .before .before .before .before .before .before .before .before .args .user) (c .before .before .before .before .before .before .before .before .before .before .args .privilege) (c .before .before .before .before .before .before .before .before .before .before .args .k) (c .before .before .row-at .result) (c .before .before .row-at .ensures) (sym (c .before .has-right .ensures) ∙ c .if2 .taken), c .before .before .before .before .before .before .before .before .before .before .pre .1 .3)
 
-row-reaches-wide-requires : (t : ℕ) → row-reaches-lts.Need-wide-requires (calls-row-reaches t) (row-reaches-at t) row-reaches.Post row-reaches-Inv-loop row-reaches-μ-loop
-row-reaches-wide-requires t c κs = search needs
-
-row-reaches-rule-numbered-requires : (t : ℕ) → row-reaches-lts.Need-rule-numbered-requires (calls-row-reaches t) (row-reaches-at t) row-reaches.Post row-reaches-Inv-loop row-reaches-μ-loop
-row-reaches-rule-numbered-requires t c κs = search needs
-
-row-reaches-wide-requires-2 : (t : ℕ) → row-reaches-lts.Need-wide-requires-2 (calls-row-reaches t) (row-reaches-at t) row-reaches.Post row-reaches-Inv-loop row-reaches-μ-loop
-row-reaches-wide-requires-2 t c κs = search needs
-
-row-reaches-least-requires : (t : ℕ) → row-reaches-lts.Need-least-requires (calls-row-reaches t) (row-reaches-at t) row-reaches.Post row-reaches-Inv-loop row-reaches-μ-loop
-row-reaches-least-requires t c κs = search needs
+row-reaches-membership-of-requires : (t : ℕ) → row-reaches-lts.Need-membership-of-requires (calls-row-reaches t) (row-reaches-at t) row-reaches.Post row-reaches-Inv-loop row-reaches-μ-loop
+row-reaches-membership-of-requires t c κs = search needs
 
 row-reaches-loop-holds : (t : ℕ) → row-reaches-lts.Need-loop-holds (calls-row-reaches t) (row-reaches-at t) row-reaches.Post row-reaches-Inv-loop row-reaches-μ-loop
-row-reaches-loop-holds t c = (omega arith, c .before .before .before .before .before .before .before .before .before .before .before .before .before .before .before .pre .1 .2, c .before .before .before .before .before .before .before .before .before .before .before .before .before .before .before .pre .1 .3, refl)
+row-reaches-loop-holds t c = (omega arith, c .before .before .before .before .before .before .before .before .before .before .before .before .pre .1 .2, c .before .before .before .before .before .before .before .before .before .before .before .before .pre .1 .3, refl)
 
 row-reaches-mul-condition : (t : ℕ) → row-reaches-lts.Need-mul-condition (calls-row-reaches t) (row-reaches-at t) row-reaches.Post row-reaches-Inv-loop row-reaches-μ-loop
 row-reaches-mul-condition t c = search needs
 
 row-reaches-array-read-condition : (t : ℕ) → row-reaches-lts.Need-array-read-condition (calls-row-reaches t) (row-reaches-at t) row-reaches.Post row-reaches-Inv-loop row-reaches-μ-loop
-row-reaches-array-read-condition t c = search needs
+row-reaches-array-read-condition t c = let z : length (c .before .before .before .membership-of .result .conditions) ≡ 8 = search needs in omega (arith, z, c .before .before .before .membership-of .ensures .0)
 
 row-reaches-add-i : (t : ℕ) → row-reaches-lts.Need-add-i (calls-row-reaches t) (row-reaches-at t) row-reaches.Post row-reaches-Inv-loop row-reaches-μ-loop
 row-reaches-add-i t c = search needs
 
 row-reaches-condition-reaches-requires : (t : ℕ) → row-reaches-lts.Need-condition-reaches-requires (calls-row-reaches t) (row-reaches-at t) row-reaches.Post row-reaches-Inv-loop row-reaches-μ-loop
-row-reaches-condition-reaches-requires t c κs = (omega (arith, c .before .before .before .before .before .before .before .before .before .before .before .before .before .before .before .before .before .before .pre .0), (omega arith, omega arith, c .before .before .loop .inv .1, c .before .before .loop .inv .2))
+row-reaches-condition-reaches-requires t c κs = (omega (arith, c .before .before .before .before .before .before .before .before .before .before .before .before .before .before .before .pre .0), (omega arith, omega arith, c .before .before .loop .inv .1, c .before .before .loop .inv .2))
 
 row-reaches-same-length : (t : ℕ) → row-reaches-lts.Need-same-length (calls-row-reaches t) (row-reaches-at t) row-reaches.Post row-reaches-Inv-loop row-reaches-μ-loop
-row-reaches-same-length t c = c .before .before .before .condition-reaches .kept .1 .1 .1 .1 .0 ∙ c .before .before .before .before .before .before .loop .inv .1 ∙ sym (c .before .before .before .before .before .before .before .before .before .before .before .before .before .before .before .before .before .before .before .before .before .before .pre .1 .2)
+row-reaches-same-length t c = c .before .before .before .condition-reaches .kept .1 .1 .1 .1 .0 ∙ c .before .before .before .before .before .before .loop .inv .1 ∙ sym (c .before .before .before .before .before .before .before .before .before .before .before .before .before .before .before .before .before .before .before .pre .1 .2)
 
 row-reaches-returns-3 : (t : ℕ) → row-reaches-lts.Need-returns-3 (calls-row-reaches t) (row-reaches-at t) row-reaches.Post row-reaches-Inv-loop row-reaches-μ-loop
-row-reaches-returns-3 t c = (row-hit (c .before .before .before .before .before .before .before .before .before .before .before .before .before .before .before .before .before .before .before .before .before .before .args .rules .now) (c .before .before .before .before .before .before .before .before .before .before .before .before .before .before .before .before .before .before .before .before .before .before .args .kinds .now) (c .before .before .before .before .before .before .before .before .before .before .before .before .before .before .before .before .before .before .before .before .before .before .args .rights .now) (c .before .before .before .before .before .before .before .before .before .before .before .before .before .before .before .before .before .before .before .before .before .before .args .state .now) (c .before .before .before .before .before .before .before .before .before .before .before .before .before .before .before .before .before .before .before .before .before .before .args .user) (c .before .before .before .before .before .before .before .before .before .before .before .before .before .before .before .before .before .before .before .before .before .before .args .privilege) (c .before .before .before .before .before .before .before .before .before .before .before .before .before .before .before .before .before .before .before .before .before .before .args .k) (c .before .before .before .before .before .before .before .least .result) (c .before .before .before .before .before .before .loop .i) (c .before .before .before .before .before .before .before .before .before .before .before .before .before .before .row-at .result) (c .before .before .before .before .before .before .before .before .before .before .rule-numbered .result) (c .before .before .before .before .before .before .before .before .before .before .before .before .before .before .row-at .ensures) (c .before .before .before .before .before .before .before .before .before .before .rule-numbered .ensures ∙ ap (λ (n : ℕ). ruleNumbered (policyOf (without-rights (c .before .before .before .before .before .before .before .before .before .before .before .before .before .before .before .before .before .before .before .before .before .before .args .rules .now) [])) n) (c .before .before .before .before .before .before .before .before .before .before .before .wide .ensures)) (search needs) (c .before .before .before .before .before .before .before .least .ensures ∙ ap (λ (n : ℕ). Prim.Native.Nat.min n 8) (c .before .before .before .before .before .before .before .before .wide2 .ensures)) (c .before .before .before .before .before .loop-test .taken) (sym (c .before .before .before .condition-reaches .ensures .0) ∙ c .if3 .taken), c .before .before .before .condition-reaches .ensures .1)
+row-reaches-returns-3 t c = (let z : length (c .before .before .before .before .before .before .before .before .membership-of .result .conditions) ≡ 8 = search needs in row-hit (c .before .before .before .before .before .before .before .before .before .before .before .before .before .before .before .before .before .before .before .args .rules .now) (c .before .before .before .before .before .before .before .before .before .before .before .before .before .before .before .before .before .before .before .args .kinds .now) (c .before .before .before .before .before .before .before .before .before .before .before .before .before .before .before .before .before .before .before .args .rights .now) (c .before .before .before .before .before .before .before .before .before .before .before .before .before .before .before .before .before .before .before .args .state .now) (c .before .before .before .before .before .before .before .before .before .before .before .before .before .before .before .before .before .before .before .args .user) (c .before .before .before .before .before .before .before .before .before .before .before .before .before .before .before .before .before .before .before .args .privilege) (c .before .before .before .before .before .before .before .before .before .before .before .before .before .before .before .before .before .before .before .args .k) (c .before .before .before .before .before .before .before .before .membership-of .result .count) (c .before .before .before .before .before .before .loop .i) (c .before .before .before .before .before .before .before .before .before .before .before .row-at .result) (c .before .before .before .before .before .before .before .before .membership-of .result .conditions) (c .before .before .before .before .before .before .before .before .before .before .before .row-at .ensures) (c .before .before .before .before .before .before .before .before .membership-of .ensures .1) (c .before .before .before .before .before .loop-test .taken) (omega (arith, z, c .before .before .before .before .before .before .before .before .membership-of .ensures .0)) (sym (c .before .before .before .condition-reaches .ensures .0) ∙ c .if3 .taken), c .before .before .before .condition-reaches .ensures .1)
 
 row-reaches-loop-less : (t : ℕ) → row-reaches-lts.Need-loop-less (calls-row-reaches t) (row-reaches-at t) row-reaches.Post row-reaches-Inv-loop row-reaches-μ-loop
 row-reaches-loop-less t c = search needs
 
 row-reaches-loop-again : (t : ℕ) → row-reaches-lts.Need-loop-again (calls-row-reaches t) (row-reaches-at t) row-reaches.Post row-reaches-Inv-loop row-reaches-μ-loop
-row-reaches-loop-again t c = (omega arith, c .before .before .before .condition-reaches .kept .1 .1 .1 .1 .0 ∙ c .before .before .before .before .before .before .loop .inv .1, c .before .before .before .condition-reaches .ensures .1, any-take-next (conditionReaches (lent (c .before .before .before .before .before .before .before .before .before .before .before .before .before .before .before .before .before .before .before .before .before .before .args .rules .now) (c .before .before .before .before .before .before .before .before .before .before .before .before .before .before .before .before .before .before .before .before .before .before .args .kinds .now) (c .before .before .before .before .before .before .before .before .before .before .before .before .before .before .before .before .before .before .before .before .before .before .args .rights .now)) (c .before .before .before .before .before .before .before .before .before .before .before .before .before .before .before .before .before .before .before .before .before .before .args .state .now) (c .before .before .before .before .before .before .before .before .before .before .before .before .before .before .before .before .before .before .before .before .before .before .args .user) (c .before .before .before .before .before .before .before .before .before .before .before .before .before .before .before .before .before .before .before .before .before .before .args .privilege) (c .before .before .before .before .before .before .before .before .before .before .before .before .before .before .before .before .before .before .before .before .before .before .args .k)) (c .before .before .before .before .before .before .before .before .before .before .rule-numbered .result .conditions) 0 (c .before .before .before .before .before .before .loop .i) (let z : length (c .before .before .before .before .before .before .before .before .before .before .rule-numbered .result .conditions) ≡ 8 = search needs in omega (arith, z, c .before .before .before .before .before .before .before .least .ensures)) (c .before .before .before .before .before .before .loop .inv .3) (sym (c .before .before .before .condition-reaches .ensures .0) ∙ c .if3 .left))
+row-reaches-loop-again t c = (omega arith, c .before .before .before .condition-reaches .kept .1 .1 .1 .1 .0 ∙ c .before .before .before .before .before .before .loop .inv .1, c .before .before .before .condition-reaches .ensures .1, any-take-next (conditionReaches (lent (c .before .before .before .before .before .before .before .before .before .before .before .before .before .before .before .before .before .before .before .args .rules .now) (c .before .before .before .before .before .before .before .before .before .before .before .before .before .before .before .before .before .before .before .args .kinds .now) (c .before .before .before .before .before .before .before .before .before .before .before .before .before .before .before .before .before .before .before .args .rights .now)) (c .before .before .before .before .before .before .before .before .before .before .before .before .before .before .before .before .before .before .before .args .state .now) (c .before .before .before .before .before .before .before .before .before .before .before .before .before .before .before .before .before .before .before .args .user) (c .before .before .before .before .before .before .before .before .before .before .before .before .before .before .before .before .before .before .before .args .privilege) (c .before .before .before .before .before .before .before .before .before .before .before .before .before .before .before .before .before .before .before .args .k)) (c .before .before .before .before .before .before .before .before .membership-of .result .conditions) 0 (c .before .before .before .before .before .before .loop .i) (let z : length (c .before .before .before .before .before .before .before .before .membership-of .result .conditions) ≡ 8 = search needs in omega (arith, z, c .before .before .before .before .before .before .before .before .membership-of .ensures .0)) (c .before .before .before .before .before .before .loop .inv .3) (sym (c .before .before .before .condition-reaches .ensures .0) ∙ c .if3 .left))
 
 row-reaches-mul-seen : (t : ℕ) → row-reaches-lts.Need-mul-seen (calls-row-reaches t) (row-reaches-at t) row-reaches.Post row-reaches-Inv-loop row-reaches-μ-loop
 row-reaches-mul-seen t c = search needs
@@ -258,10 +243,10 @@ row-reaches-slice-write-seen : (t : ℕ) → row-reaches-lts.Need-slice-write-se
 row-reaches-slice-write-seen t c = search needs
 
 row-reaches-same-length-2 : (t : ℕ) → row-reaches-lts.Need-same-length-2 (calls-row-reaches t) (row-reaches-at t) row-reaches.Post row-reaches-Inv-loop row-reaches-μ-loop
-row-reaches-same-length-2 t c = simp length-set (c .before .loop .inv .1 ∙ sym (c .before .before .before .before .before .before .before .before .before .before .before .before .before .before .before .before .before .pre .1 .2))
+row-reaches-same-length-2 t c = simp length-set (c .before .loop .inv .1 ∙ sym (c .before .before .before .before .before .before .before .before .before .before .before .before .before .before .pre .1 .2))
 
 row-reaches-returns-4 : (t : ℕ) → row-reaches-lts.Need-returns-4 (calls-row-reaches t) (row-reaches-at t) row-reaches.Post row-reaches-Inv-loop row-reaches-μ-loop
-row-reaches-returns-4 t c = let e : rowReaches (lent (c .before .before .before .before .before .before .before .before .before .before .before .before .before .before .before .before .before .args .rules .now) (c .before .before .before .before .before .before .before .before .before .before .before .before .before .before .before .before .before .args .kinds .now) (c .before .before .before .before .before .before .before .before .before .before .before .before .before .before .before .before .before .args .rights .now)) (c .before .before .before .before .before .before .before .before .before .before .before .before .before .before .before .before .before .args .state .now) (c .before .before .before .before .before .before .before .before .before .before .before .before .before .before .before .before .before .args .user) (c .before .before .before .before .before .before .before .before .before .before .before .before .before .before .before .before .before .args .privilege) (c .before .before .before .before .before .before .before .before .before .before .before .before .before .before .before .before .before .args .k) ≡ false = row-none (c .before .before .before .before .before .before .before .before .before .before .before .before .before .before .before .before .before .args .rules .now) (c .before .before .before .before .before .before .before .before .before .before .before .before .before .before .before .before .before .args .kinds .now) (c .before .before .before .before .before .before .before .before .before .before .before .before .before .before .before .before .before .args .rights .now) (c .before .before .before .before .before .before .before .before .before .before .before .before .before .before .before .before .before .args .state .now) (c .before .before .before .before .before .before .before .before .before .before .before .before .before .before .before .before .before .args .user) (c .before .before .before .before .before .before .before .before .before .before .before .before .before .before .before .before .before .args .privilege) (c .before .before .before .before .before .before .before .before .before .before .before .before .before .before .before .before .before .args .k) (c .before .before .least .result) (c .before .loop .i) (c .before .before .before .before .before .before .before .before .before .row-at .result) (c .before .before .before .before .before .rule-numbered .result) (c .before .before .before .before .before .before .before .before .before .row-at .ensures) (c .before .before .before .before .before .rule-numbered .ensures ∙ ap (λ (n : ℕ). ruleNumbered (policyOf (without-rights (c .before .before .before .before .before .before .before .before .before .before .before .before .before .before .before .before .before .args .rules .now) [])) n) (c .before .before .before .before .before .before .wide .ensures)) (search needs) (c .before .before .least .ensures ∙ ap (λ (n : ℕ). Prim.Native.Nat.min n 8) (c .before .before .before .wide2 .ensures)) (c .before .loop .inv .0) (omega arith) (sym (c .before .before .before .before .before .before .before .before .has-right .ensures) ∙ c .before .before .before .before .before .before .before .if2 .left) (c .before .loop .inv .3) in (sym e, clean-set (lent (c .before .before .before .before .before .before .before .before .before .before .before .before .before .before .before .before .before .args .rules .now) (c .before .before .before .before .before .before .before .before .before .before .before .before .before .before .before .before .before .args .kinds .now) (c .before .before .before .before .before .before .before .before .before .before .before .before .before .before .before .before .before .args .rights .now)) (c .before .before .before .before .before .before .before .before .before .before .before .before .before .before .before .before .before .args .state .now) (c .before .before .before .before .before .before .before .before .before .before .before .before .before .before .before .before .before .args .user) (c .before .before .before .before .before .before .before .before .before .before .before .before .before .before .before .before .before .args .privilege) (c .before .loop .seen) (c .before .before .before .before .before .before .before .before .before .before .before .before .before .before .before .before .before .args .k) (c .before .loop .inv .2) e)
+row-reaches-returns-4 t c = let e : rowReaches (lent (c .before .before .before .before .before .before .before .before .before .before .before .before .before .before .args .rules .now) (c .before .before .before .before .before .before .before .before .before .before .before .before .before .before .args .kinds .now) (c .before .before .before .before .before .before .before .before .before .before .before .before .before .before .args .rights .now)) (c .before .before .before .before .before .before .before .before .before .before .before .before .before .before .args .state .now) (c .before .before .before .before .before .before .before .before .before .before .before .before .before .before .args .user) (c .before .before .before .before .before .before .before .before .before .before .before .before .before .before .args .privilege) (c .before .before .before .before .before .before .before .before .before .before .before .before .before .before .args .k) ≡ false = row-none (c .before .before .before .before .before .before .before .before .before .before .before .before .before .before .args .rules .now) (c .before .before .before .before .before .before .before .before .before .before .before .before .before .before .args .kinds .now) (c .before .before .before .before .before .before .before .before .before .before .before .before .before .before .args .rights .now) (c .before .before .before .before .before .before .before .before .before .before .before .before .before .before .args .state .now) (c .before .before .before .before .before .before .before .before .before .before .before .before .before .before .args .user) (c .before .before .before .before .before .before .before .before .before .before .before .before .before .before .args .privilege) (c .before .before .before .before .before .before .before .before .before .before .before .before .before .before .args .k) (c .before .before .before .membership-of .result .count) (c .before .loop .i) (c .before .before .before .before .before .before .row-at .result) (c .before .before .before .membership-of .result .conditions) (c .before .before .before .before .before .before .row-at .ensures) (c .before .before .before .membership-of .ensures .1) (c .before .loop .inv .0) (omega arith) (sym (c .before .before .before .before .before .has-right .ensures) ∙ c .before .before .before .before .if2 .left) (c .before .loop .inv .3) in (sym e, clean-set (lent (c .before .before .before .before .before .before .before .before .before .before .before .before .before .before .args .rules .now) (c .before .before .before .before .before .before .before .before .before .before .before .before .before .before .args .kinds .now) (c .before .before .before .before .before .before .before .before .before .before .before .before .before .before .args .rights .now)) (c .before .before .before .before .before .before .before .before .before .before .before .before .before .before .args .state .now) (c .before .before .before .before .before .before .before .before .before .before .before .before .before .before .args .user) (c .before .before .before .before .before .before .before .before .before .before .before .before .before .before .args .privilege) (c .before .loop .seen) (c .before .before .before .before .before .before .before .before .before .before .before .before .before .before .args .k) (c .before .loop .inv .2) e)
 
 pub +condition-reaches+row-reaches-spec : {M : Type 1} → statement M
 +condition-reaches+row-reaches-spec =
@@ -297,10 +282,7 @@ pub +condition-reaches+row-reaches-spec : {M : Type 1} → statement M
     (row-reaches-row-at-requires t)
     (row-reaches-has-right-requires t)
     (row-reaches-returns-2 t)
-    (row-reaches-wide-requires t)
-    (row-reaches-rule-numbered-requires t)
-    (row-reaches-wide-requires-2 t)
-    (row-reaches-least-requires t)
+    (row-reaches-membership-of-requires t)
     (row-reaches-loop-holds t)
     (row-reaches-mul-condition t)
     (row-reaches-array-read-condition t)

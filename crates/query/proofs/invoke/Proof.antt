@@ -1,5 +1,3 @@
-use mathlib.Core.Path.{refl, sym, _∙_}
-use mathlib.Core.Bool.{true, false}
 use mathlib.Core.List.{[], _∷_}
 use borrow.Author.Tests.{le-ltb}
 use Rattle.model.specs.Calls.{isUser, isPrivilege}
@@ -9,14 +7,14 @@ use borrow.Author.Needs.{needs}
 use Rattle.query.proofs.invoke.Statement.{statement}
 use Rattle.query.proofs.invoke.Tie as tie
 
--- src/lib.rt:325:9
+-- src/lib.rt:106:9
 refused-requires : tie.Need-refused-requires
 refused-requires c κs = search needs
 
 returns : tie.Need-returns
 returns c = invoke-out (c .before .before .before .before .before .before .args .rules .now) (c .before .before .before .before .before .before .args .kinds .now) (c .before .before .before .before .before .before .args .rights .now) (c .before .before .before .before .before .before .args .state .now) (c .before .before .before .before .before .before .pre) (c .before .before .before .before .before .before .args .user) (c .before .before .before .before .before .before .args .privilege) (c .refused .result) (c .refused .ensures) (out-of-range (isUser (c .before .before .before .before .before .before .args .user) ∷ isPrivilege (c .before .before .before .before .before .before .args .privilege) ∷ []) 0 (le-ltb (c .before .before .before .before .before .before .args .user) 4096 (c .before .if1 .taken)))
 
--- src/lib.rt:328:9
+-- src/lib.rt:109:9
 refused-requires-2 : tie.Need-refused-requires-2
 refused-requires-2 c κs = search needs
 
@@ -26,15 +24,12 @@ returns-2 c = invoke-out (c .before .before .before .before .before .before .bef
 may-invoke-requires : tie.Need-may-invoke-requires
 may-invoke-requires c κs = sound-sized _ (c .before .before .before .before .before .before .args .state .now) (c .before .before .before .before .before .before .pre)
 
+-- src/lib.rt:111:5
+told-requires : tie.Need-told-requires
+told-requires c κs = search needs
+
 returns-3 : tie.Need-returns-3
-returns-3 c = invoke-told (c .before .before .before .before .before .before .before .before .args .rules .now) (c .before .before .before .before .before .before .before .before .args .kinds .now) (c .before .before .before .before .before .before .before .before .args .rights .now) (c .before .before .before .before .before .before .before .before .args .state .now) (c .before .before .before .before .before .before .before .before .pre) (c .before .before .before .before .before .before .before .before .args .user) (c .before .before .before .before .before .before .before .before .args .privilege) _ true (c .before .before .before .if1 .left) (c .before .before .if2 .left) refl refl (sym (c .if3 .taken) ∙ c .before .may-invoke .ensures)
-
--- src/lib.rt:333:5
-refused-requires-3 : tie.Need-refused-requires-3
-refused-requires-3 c κs = search needs
-
-returns-4 : tie.Need-returns-4
-returns-4 c = invoke-told (c .before .before .before .before .before .before .before .before .before .args .rules .now) (c .before .before .before .before .before .before .before .before .before .args .kinds .now) (c .before .before .before .before .before .before .before .before .before .args .rights .now) (c .before .before .before .before .before .before .before .before .before .args .state .now) (c .before .before .before .before .before .before .before .before .before .pre) (c .before .before .before .before .before .before .before .before .before .args .user) (c .before .before .before .before .before .before .before .before .before .args .privilege) (c .refused3 .result) false (c .before .before .before .before .if1 .left) (c .before .before .before .if2 .left) (c .refused3 .ensures .0) (c .refused3 .ensures .1) (sym (c .before .if3 .left) ∙ c .before .before .may-invoke .ensures)
+returns-3 c = invoke-told (c .before .before .before .before .before .before .before .before .args .rules .now) (c .before .before .before .before .before .before .before .before .args .kinds .now) (c .before .before .before .before .before .before .before .before .args .rights .now) (c .before .before .before .before .before .before .before .before .args .state .now) (c .before .before .before .before .before .before .before .before .pre) (c .before .before .before .before .before .before .before .before .args .user) (c .before .before .before .before .before .before .before .before .args .privilege) (c .told .result) (c .before .may-invoke .result) (c .before .before .before .if1 .left) (c .before .before .if2 .left) (c .told .ensures) (c .before .may-invoke .ensures)
 
 pub invoke-spec : {M : Type 1} → statement M
 invoke-spec =
@@ -45,6 +40,5 @@ invoke-spec =
     refused-requires-2
     returns-2
     may-invoke-requires
-    returns-3
-    refused-requires-3
-    returns-4)
+    told-requires
+    returns-3)

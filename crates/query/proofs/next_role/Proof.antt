@@ -1,12 +1,12 @@
 -- The invariant: the conditions passed ask for no role.
-use Prim.Native.Nat.{ℕ, _-_, _≤_, min}
-use mathlib.Core.Path.{_≡_, refl, sym, ap, _∙_}
+use Prim.Native.Nat.{ℕ, _-_, _≤_}
+use mathlib.Core.Path.{_≡_, refl}
 use mathlib.Core.List.{[]}
 use native.Mathlib.Omega.{arith}
 use lib.ListN.{length, take}
 use Rattle.model.specs.Lists.{joined}
 use Rattle.model.specs.Layout.{policyOf}
-use Rattle.model.specs.Conditions.{meant, ruleNumbered, rolesAsked}
+use Rattle.model.specs.Conditions.{meant, rolesAsked}
 use Rattle.table.specs.Entries.{without-rights}
 use Rattle.query.proofs.Stepping.{step-more, step-found, step-none}
 use borrow.Author.Needs.{needs}
@@ -19,57 +19,44 @@ Inv-loop rules kinds conditions m i₀ i = (i ≤ m) × (joined (λ (c : ℕ). r
 abbrev μ-loop : tie.MeasureT-loop
 μ-loop rules kinds conditions m i₀ i = m - i
 
--- src/lib.rt:276:44
-wide-requires : tie.Need-wide-requires Inv-loop μ-loop
-wide-requires c κs = search needs
-
--- src/lib.rt:276:9
-rule-numbered-requires : tie.Need-rule-numbered-requires Inv-loop μ-loop
-rule-numbered-requires c κs = search needs
-
--- src/lib.rt:278:26
-wide-requires-2 : tie.Need-wide-requires-2 Inv-loop μ-loop
-wide-requires-2 c κs = search needs
-
--- src/lib.rt:278:9
-least-requires : tie.Need-least-requires Inv-loop μ-loop
-least-requires c κs = search needs
+-- src/lib.rt:296:9
+membership-of-requires : tie.Need-membership-of-requires Inv-loop μ-loop
+membership-of-requires c κs = search needs
 
 loop-holds : tie.Need-loop-holds Inv-loop μ-loop
 loop-holds c = (omega arith, refl)
 
--- src/lib.rt:281:40
+-- src/lib.rt:301:40
 mul-roles-asked : tie.Need-mul-roles-asked Inv-loop μ-loop
 mul-roles-asked c = search needs
 
--- src/lib.rt:281:40
 array-read-roles-asked : tie.Need-array-read-roles-asked Inv-loop μ-loop
-array-read-roles-asked c = search needs
+array-read-roles-asked c = let z : length (c .before .before .before .membership-of .result .conditions) ≡ 8 = search needs in omega (arith, z, c .before .before .before .membership-of .ensures .0)
 
--- src/lib.rt:281:13
+-- src/lib.rt:301:13
 roles-asked-requires : tie.Need-roles-asked-requires Inv-loop μ-loop
 roles-asked-requires c κs = search needs
 
--- src/lib.rt:284:20
+-- src/lib.rt:304:20
 array-read-result : tie.Need-array-read-result Inv-loop μ-loop
 array-read-result c = search needs
 
 returns : tie.Need-returns Inv-loop μ-loop
-returns c = step-found (c .before .before .before .before .before .before .before .before .before .before .before .before .before .args .rules .now) (c .before .before .before .before .before .before .before .before .before .before .before .before .before .args .kinds .now) (c .before .before .before .before .before .before .before .before .before .before .before .before .before .args .row) (c .before .before .before .before .before .before .before .before .before .rule-numbered .result) (c .before .before .before .before .before .before .before .before .before .rule-numbered .ensures ∙ ap (λ (n : ℕ). ruleNumbered (policyOf (without-rights (c .before .before .before .before .before .before .before .before .before .before .before .before .before .args .rules .now) [])) n) (c .before .before .before .before .before .before .before .before .before .before .wide .ensures)) (search needs) (c .before .before .before .before .before .before .least .result) (c .before .before .before .before .before .before .least .ensures ∙ ap (λ (n : ℕ). min n 8) (c .before .before .before .before .before .before .before .wide2 .ensures)) (c .before .before .before .before .before .loop .i) (c .before .before .before .roles-asked .result .count) (c .before .before .before .roles-asked .result .roles) (c .before .before .before .before .loop-test .taken) (c .before .before .before .before .before .loop .inv .1) (c .before .before .before .roles-asked .ensures .1) (c .if1 .taken) (let z : length (c .before .before .before .roles-asked .result .roles) ≡ 4 = search needs in omega (arith, z))
+returns c = let z : length (c .before .before .before .before .before .before .before .membership-of .result .conditions) ≡ 8 = search needs in step-found (c .before .before .before .before .before .before .before .before .before .before .args .rules .now) (c .before .before .before .before .before .before .before .before .before .before .args .kinds .now) (c .before .before .before .before .before .before .before .before .before .before .args .row) (c .before .before .before .before .before .before .before .membership-of .result .conditions) (c .before .before .before .before .before .before .before .membership-of .result .count) (c .before .before .before .before .before .before .before .membership-of .ensures .1) (c .before .before .before .before .before .loop .i) (c .before .before .before .roles-asked .result .count) (c .before .before .before .roles-asked .result .roles) (c .before .before .before .before .loop-test .taken) (omega (arith, z, c .before .before .before .before .before .before .before .membership-of .ensures .0)) (c .before .before .before .before .before .loop .inv .1) (c .before .before .before .roles-asked .ensures .1) (c .if1 .taken) (let y : length (c .before .before .before .roles-asked .result .roles) ≡ 4 = search needs in omega (arith, y))
 
--- src/lib.rt:286:9
+-- src/lib.rt:306:9
 add-i : tie.Need-add-i Inv-loop μ-loop
 add-i c = search needs
 
--- src/lib.rt:280:5
+-- src/lib.rt:300:5
 loop-less : tie.Need-loop-less Inv-loop μ-loop
 loop-less c = search needs
 
 loop-again : tie.Need-loop-again Inv-loop μ-loop
-loop-again c = (omega arith, step-more (c .before .before .before .before .before .before .before .before .before .before .before .before .before .args .rules .now) (c .before .before .before .before .before .before .before .before .before .before .before .before .before .args .kinds .now) (c .before .before .before .before .before .before .before .before .before .before .before .before .before .args .row) (c .before .before .before .before .before .before .before .before .before .rule-numbered .result) (c .before .before .before .before .before .before .before .before .before .rule-numbered .ensures ∙ ap (λ (n : ℕ). ruleNumbered (policyOf (without-rights (c .before .before .before .before .before .before .before .before .before .before .before .before .before .args .rules .now) [])) n) (c .before .before .before .before .before .before .before .before .before .before .wide .ensures)) (search needs) (c .before .before .before .before .before .before .least .result) (c .before .before .before .before .before .before .least .ensures ∙ ap (λ (n : ℕ). min n 8) (c .before .before .before .before .before .before .before .wide2 .ensures)) (c .before .before .before .before .before .loop .i) (c .before .before .before .roles-asked .result .count) (c .before .before .before .roles-asked .result .roles) (c .before .before .before .before .loop-test .taken) (c .before .before .before .before .before .loop .inv .1) (c .before .before .before .roles-asked .ensures .1) (omega arith))
+loop-again c = let z : length (c .before .before .before .before .before .before .before .membership-of .result .conditions) ≡ 8 = search needs in (omega arith, step-more (c .before .before .before .before .before .before .before .before .before .before .args .rules .now) (c .before .before .before .before .before .before .before .before .before .before .args .kinds .now) (c .before .before .before .before .before .before .before .before .before .before .args .row) (c .before .before .before .before .before .before .before .membership-of .result .conditions) (c .before .before .before .before .before .before .before .membership-of .result .count) (c .before .before .before .before .before .before .before .membership-of .ensures .1) (c .before .before .before .before .before .loop .i) (c .before .before .before .roles-asked .result .count) (c .before .before .before .roles-asked .result .roles) (omega (arith, z, c .before .before .before .before .before .before .before .membership-of .ensures .0)) (c .before .before .before .before .before .loop .inv .1) (c .before .before .before .roles-asked .ensures .1) (omega arith))
 
 returns-2 : tie.Need-returns-2 Inv-loop μ-loop
-returns-2 c = step-none (c .before .before .before .before .before .before .before .before .before .args .rules .now) (c .before .before .before .before .before .before .before .before .before .args .kinds .now) (c .before .before .before .before .before .before .before .before .before .args .row) (c .before .before .before .before .before .rule-numbered .result) (c .before .before .before .before .before .rule-numbered .ensures ∙ ap (λ (n : ℕ). ruleNumbered (policyOf (without-rights (c .before .before .before .before .before .before .before .before .before .args .rules .now) [])) n) (c .before .before .before .before .before .before .wide .ensures)) (search needs) (c .before .before .least .result) (c .before .before .least .ensures ∙ ap (λ (n : ℕ). min n 8) (c .before .before .before .wide2 .ensures)) (c .before .loop .i) (c .before .loop .inv .0) (omega arith) (c .before .loop .inv .1)
+returns-2 c = step-none (c .before .before .before .before .before .before .args .rules .now) (c .before .before .before .before .before .before .args .kinds .now) (c .before .before .before .before .before .before .args .row) (c .before .before .before .membership-of .result .conditions) (c .before .before .before .membership-of .result .count) (c .before .before .before .membership-of .ensures .1) (c .before .loop .i) (c .before .loop .inv .0) (omega arith) (c .before .loop .inv .1)
 
 pub next-role-spec : {M : Type 1} → statement M
 next-role-spec =
@@ -77,10 +64,7 @@ next-role-spec =
     (tie.spec
     Inv-loop
     μ-loop
-    wide-requires
-    rule-numbered-requires
-    wide-requires-2
-    least-requires
+    membership-of-requires
     loop-holds
     mul-roles-asked
     array-read-roles-asked

@@ -1,0 +1,35 @@
+use Prim.Native.Nat.{ℕ, min}
+use mathlib.Core.Path.{_≡_, refl, sym, ap, _∙_}
+use mathlib.Core.List.{[]}
+use native.Mathlib.Omega.{arith}
+use Rattle.model.specs.Layout.{policyOf}
+use Rattle.model.specs.Conditions.{ruleNumbered}
+use Rattle.table.specs.Entries.{without-rights}
+use Rattle.query.proofs.Reaching.{own-rule}
+use borrow.Author.Needs.{needs}
+use Rattle.query.proofs.membership_of.Statement.{statement}
+use Rattle.query.proofs.membership_of.Tie as tie
+
+-- src/lib.rt:153:44
+wide-requires : tie.Need-wide-requires
+wide-requires c κs = search needs
+
+-- src/lib.rt:153:9
+rule-numbered-requires : tie.Need-rule-numbered-requires
+rule-numbered-requires c κs = search needs
+
+-- src/lib.rt:155:30
+wide-requires-2 : tie.Need-wide-requires-2
+wide-requires-2 c κs = search needs
+
+-- src/lib.rt:155:9
+least-requires : tie.Need-least-requires
+least-requires c κs = search needs
+
+returns : tie.Need-returns
+returns c = (omega (arith, c .least .ensures), own-rule (c .before .before .before .before .before .before .args .rules .now) (c .before .before .before .before .before .before .args .row) (c .before .before .before .rule-numbered .result) _ (c .before .before .before .rule-numbered .ensures ∙ ap (λ (n : ℕ). ruleNumbered (policyOf (without-rights (c .before .before .before .before .before .before .args .rules .now) [])) n) (c .before .before .before .before .wide .ensures)) (search needs) (c .least .ensures ∙ ap (λ (n : ℕ). min n 8) (c .before .wide2 .ensures)))
+
+pub membership-of-spec : {M : Type 1} → statement M
+membership-of-spec =
+    tie.close
+    (tie.spec wide-requires rule-numbered-requires wide-requires-2 least-requires returns)
