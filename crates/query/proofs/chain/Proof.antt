@@ -27,21 +27,21 @@ Inv-loop rules kinds rights state user role list₀ k₀ q₀ n₀ list k q n = 
 abbrev μ-loop : tie.MeasureT-loop
 μ-loop rules kinds rights state user role list₀ k₀ q₀ n₀ list k q n = k
 
--- src/lib.rt:305:9
+-- src/lib.rt:325:9
 refused-requires : tie.Need-refused-requires Inv-loop μ-loop
 refused-requires c κs = search needs
 
 returns : tie.Need-returns Inv-loop μ-loop
 returns c = chain-out (c .before .before .before .before .before .before .before .args .rules .now) (c .before .before .before .before .before .before .before .args .kinds .now) (c .before .before .before .before .before .before .before .args .rights .now) (c .before .before .before .before .before .before .before .args .state .now) (c .before .before .before .before .before .before .before .args .list .now) (c .before .before .before .before .before .before .before .pre) (c .before .before .before .before .before .before .before .args .user) (c .before .before .before .before .before .before .before .args .role) (c .refused .result) (c .refused .ensures) (out-of-range (isUser (c .before .before .before .before .before .before .before .args .user) ∷ isRole (c .before .before .before .before .before .before .before .args .role) ∷ eqb (length (c .before .before .before .before .before .before .before .args .list .now)) 256 ∷ []) 0 (le-ltb (c .before .before .before .before .before .before .before .args .user) 4096 (c .before .if1 .taken)))
 
--- src/lib.rt:308:9
+-- src/lib.rt:328:9
 refused-requires-2 : tie.Need-refused-requires-2 Inv-loop μ-loop
 refused-requires-2 c κs = search needs
 
 returns-2 : tie.Need-returns-2 Inv-loop μ-loop
 returns-2 c = chain-out (c .before .before .before .before .before .before .before .before .args .rules .now) (c .before .before .before .before .before .before .before .before .args .kinds .now) (c .before .before .before .before .before .before .before .before .args .rights .now) (c .before .before .before .before .before .before .before .before .args .state .now) (c .before .before .before .before .before .before .before .before .args .list .now) (c .before .before .before .before .before .before .before .before .pre) (c .before .before .before .before .before .before .before .before .args .user) (c .before .before .before .before .before .before .before .before .args .role) (c .refused2 .result) (c .refused2 .ensures) (out-of-range (isUser (c .before .before .before .before .before .before .before .before .args .user) ∷ isRole (c .before .before .before .before .before .before .before .before .args .role) ∷ eqb (length (c .before .before .before .before .before .before .before .before .args .list .now)) 256 ∷ []) 1 (le-ltb (c .before .before .before .before .before .before .before .before .args .role) 256 (c .before .if2 .taken)))
 
--- src/lib.rt:311:9
+-- src/lib.rt:331:9
 refused-requires-3 : tie.Need-refused-requires-3 Inv-loop μ-loop
 refused-requires-3 c κs = search needs
 
@@ -51,14 +51,14 @@ returns-3 c = chain-out (c .before .before .before .before .before .before .befo
 shared-slice-read-wide : tie.Need-shared-slice-read-wide Inv-loop μ-loop
 shared-slice-read-wide c = omega (arith, sound-sized _ (c .before .before .before .before .before .before .before .before .before .args .state .now) (c .before .before .before .before .before .before .before .before .before .pre) .size)
 
--- src/lib.rt:313:9
+-- src/lib.rt:333:9
 wide-requires : tie.Need-wide-requires Inv-loop μ-loop
 wide-requires c κs = search needs
 
 is-active-requires : tie.Need-is-active-requires Inv-loop μ-loop
 is-active-requires c κs = (sound-sized _ (c .before .before .before .before .before .before .before .before .before .before .args .state .now) (c .before .before .before .before .before .before .before .before .before .before .pre) .size, omega (arith, c .wide .ensures, sound-sized _ (c .before .before .before .before .before .before .before .before .before .before .args .state .now) (c .before .before .before .before .before .before .before .before .before .before .pre) .rows))
 
--- src/lib.rt:315:9
+-- src/lib.rt:335:9
 refused-requires-4 : tie.Need-refused-requires-4 Inv-loop μ-loop
 refused-requires-4 c κs = search needs
 
@@ -86,7 +86,7 @@ add-n c = omega (arith, sound-sized _ (c .before .before .before .before .before
 row-at-requires : tie.Need-row-at-requires Inv-loop μ-loop
 row-at-requires c κs = (sound-sized _ (c .before .before .before .before .before .before .before .before .before .before .before .before .before .before .before .args .state .now) (c .before .before .before .before .before .before .before .before .before .before .before .before .before .before .before .pre) .size, omega (arith, sound-sized _ (c .before .before .before .before .before .before .before .before .before .before .before .before .before .before .before .args .state .now) (c .before .before .before .before .before .before .before .before .before .before .before .before .before .before .before .pre) .rows, c .newest-row .ensures, newest-within (c .before .before .before .before .before .before .before .before .before .before .before .before .before .before .before .args .state .now) (c .before .before .before .before .before .before .before .before .before .before .before .before .before .before .before .args .user) (c .before .before .loop .q) (c .before .before .loop .k), c .before .before .loop .inv .2 (c .before .loop-test .taken)))
 
--- src/lib.rt:323:9
+-- src/lib.rt:343:9
 next-role-requires : tie.Need-next-role-requires Inv-loop μ-loop
 next-role-requires c κs = search needs
 
@@ -97,7 +97,7 @@ loop-again : tie.Need-loop-again Inv-loop μ-loop
 loop-again c = (omega (arith, c .before .before .newest-row .ensures, newest-within (c .before .before .before .before .before .before .before .before .before .before .before .before .before .before .before .before .before .args .state .now) (c .before .before .before .before .before .before .before .before .before .before .before .before .before .before .before .before .before .args .user) (c .before .before .before .before .loop .q) (c .before .before .before .before .loop .k), c .before .before .before .before .loop .inv .2 (c .before .before .before .loop-test .taken)), simp length-set (c .before .before .before .before .loop .inv .1), turn-stands (c .before .before .before .before .before .before .before .before .before .before .before .before .before .before .before .before .before .args .rules .now) (c .before .before .before .before .before .before .before .before .before .before .before .before .before .before .before .before .before .args .kinds .now) (c .before .before .before .before .before .before .before .before .before .before .before .before .before .before .before .before .before .args .rights .now) (c .before .before .before .before .before .before .before .before .before .before .before .before .before .before .before .before .before .args .state .now) (c .before .before .before .before .before .before .before .before .before .before .before .before .before .before .before .before .before .pre) (c .before .before .before .before .before .before .before .before .before .before .before .before .before .before .before .before .before .args .user) (c .before .before .before .before .loop .q) (c .before .before .before .before .loop .k) (c .before .before .newest-row .result) (c .next-role .result) (c .before .row-at .result) (c .before .before .newest-row .ensures) (c .before .row-at .ensures) (c .next-role .ensures) (c .before .before .before .before .loop .inv .2 (c .before .before .before .loop-test .taken)) (omega arith), turn-written (c .before .before .before .before .before .before .before .before .before .before .before .before .before .before .before .before .before .args .rules .now) (c .before .before .before .before .before .before .before .before .before .before .before .before .before .before .before .before .before .args .kinds .now) (c .before .before .before .before .before .before .before .before .before .before .before .before .before .before .before .before .before .args .rights .now) (c .before .before .before .before .before .before .before .before .before .before .before .before .before .before .before .before .before .args .state .now) (c .before .before .before .before .before .before .before .before .before .before .before .before .before .before .before .before .before .pre) (c .before .before .before .before .before .before .before .before .before .before .before .before .before .before .before .before .before .args .user) (c .before .before .before .before .loop .q) (c .before .before .before .before .loop .k) (c .before .before .newest-row .result) (c .next-role .result) (c .before .row-at .result) _ (c .before .before .before .before .loop .list) (c .before .before .before .before .loop .n) (c .before .before .newest-row .ensures) (c .before .row-at .ensures) (c .next-role .ensures) (c .before .before .before .before .loop .inv .2 (c .before .before .before .loop-test .taken)) (omega arith) (omega (arith, sound-sized _ (c .before .before .before .before .before .before .before .before .before .before .before .before .before .before .before .before .before .args .state .now) (c .before .before .before .before .before .before .before .before .before .before .before .before .before .before .before .before .before .pre) .rows, newest-within (c .before .before .before .before .before .before .before .before .before .before .before .before .before .before .before .before .before .args .state .now) (c .before .before .before .before .before .before .before .before .before .before .before .before .before .before .before .before .before .args .user) (c .before .before .before .before .loop .q) (c .before .before .before .before .loop .k), c .before .before .before .before .loop .inv .2 (c .before .before .before .loop-test .taken))) (c .before .before .before .before .loop .inv .1) (c .before .before .before .loop-test .taken) (c .before .before .before .before .loop .inv .3))
 
 zero-requires : tie.Need-zero-requires Inv-loop μ-loop
-zero-requires c κs = (omega (arith, sound-sized _ (c .before .before .before .before .before .before .before .before .before .before .before .before .before .before .before .args .state .now) (c .before .before .before .before .before .before .before .before .before .before .before .before .before .before .before .pre) .rows), omega (arith, c .before .before .loop .inv .1))
+zero-requires c κs = (omega (arith, sound-sized _ (c .before .before .before .before .before .before .before .before .before .before .before .before .before .before .before .args .state .now) (c .before .before .before .before .before .before .before .before .before .before .before .before .before .before .before .pre) .rows), omega (arith, c .before .before .loop .inv .1, sound-sized _ (c .before .before .before .before .before .before .before .before .before .before .before .before .before .before .before .args .state .now) (c .before .before .before .before .before .before .before .before .before .before .before .before .before .before .before .pre) .rows))
 
 cast-t14 : tie.Need-cast-t14 Inv-loop μ-loop
 cast-t14 c = omega (arith, sound-sized _ (c .before .before .before .before .before .before .before .before .before .before .before .before .before .before .before .before .before .before .args .state .now) (c .before .before .before .before .before .before .before .before .before .before .before .before .before .before .before .before .before .before .pre) .rows)
