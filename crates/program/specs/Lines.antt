@@ -7,7 +7,7 @@ use lib.Dec.{eqb, ltb, leb}
 use lib.ListN.{length, replicate}
 use Rattle.model.specs.Lists.{every, all, filledTo}
 use Rattle.program.specs.Text.{isNumber, valueOf, said}
-use Rattle.program.specs.Vocabulary.{words, wordOf, leastOf, greatestOf}
+use Rattle.program.specs.Vocabulary.{words, wordOf, numbered}
 use Rattle.program.specs.declared.Line.{Line}
 
 abbrev pub mostNumbers : ℕ
@@ -23,8 +23,8 @@ isUnknown l = eqb (l .word) words
 unfoldable pub lineClauses : ℕ → List (List ℕ) → List Bool
 lineClauses word arguments =
     ltb word words
-    ∷ leb (leastOf word) (length arguments)
-    ∷ leb (length arguments) (greatestOf word)
+    ∷ leb (numbered word .least) (length arguments)
+    ∷ leb (length arguments) (numbered word .greatest)
     ∷ all isNumber arguments
     ∷ []
 

@@ -54,8 +54,6 @@ same (a ∷ xs) (b ∷ ys) = let later = same xs ys in eqb a b && later
 unfoldable pub wordOf : List ℕ → ℕ
 wordOf field = firstPlace (λ (w : Word). same field (w .letters)) vocabulary
 
-abbrev pub leastOf : ℕ → ℕ
-leastOf word = getD vocabulary word ("" with 0 to 0) .least
-
-abbrev pub greatestOf : ℕ → ℕ
-greatestOf word = getD vocabulary word ("" with 0 to 0) .greatest
+-- the word of a number
+abbrev pub numbered : ℕ → Word
+numbered word = getD vocabulary word ("" with 0 to 0)
