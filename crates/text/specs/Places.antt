@@ -1,11 +1,11 @@
 -- A text by its places, as code reads it: where a record and a field end, the bytes between two places, and a field's number.
 use Prim.Native.Nat.{ℕ, suc, _+_, _-_}
 use mathlib.Core.Bool.{Bool, _&&_, cond}
-use mathlib.Core.List.{List, [], _∷_}
-use lib.Dec.{eqb, ltb, leb}
+use mathlib.Core.List.{List, [], _∷_, map}
+use lib.Dec.{eqb, leb}
 use lib.ListN.{length, getD, take, drop}
 use Rattle.model.specs.Lists.{all}
-use Rattle.program.specs.Text.{comma, cr, lf, fields, isDigit, valueBehind, valueOf, isNumber}
+use Rattle.program.specs.Text.{comma, cr, lf, fields, unquoted, isDigit, valueBehind, valueOf, isNumber}
 use Rattle.text.specs.declared.Number.{Number}
 use Rattle.text.specs.declared.Number.the-variants.{Value, Not}
 
@@ -37,9 +37,14 @@ recordEnd text from = endFrom atCrlf text from
 unfoldable pub fieldEnd : List ℕ → ℕ → ℕ
 fieldEnd bytes from = endFrom atComma bytes from
 
--- the fields behind the one that ends at the place
-unfoldable pub fieldsBehind : List ℕ → ℕ → List (List ℕ)
-fieldsBehind bytes place = cond (ltb place (length bytes)) (fields (drop (place + 1) bytes)) []
+-- the fields behind a field: none where nothing is left, else those behind the comma
+abbrev pub fieldsAfter : List ℕ → List (List ℕ)
+fieldsAfter [] = []
+fieldsAfter (b ∷ left) = fields left
+
+-- what the fields say behind the one that ends at the place
+unfoldable pub saidBehind : List ℕ → ℕ → List (List ℕ)
+saidBehind bytes place = map unquoted (fieldsAfter (drop place bytes))
 
 -- the number of a field, if it is one
 unfoldable pub numberOf : List ℕ → Number

@@ -1,14 +1,13 @@
 // The scanner: where records and fields of a lent text end, what a field says, and a record as a line. Nothing is copied but numbers.
 ghost use mathlib.Core.Path.{_≡_};
 ghost use mathlib.Core.Bool.{_&&_};
-ghost use mathlib.Core.List.{map};
 ghost use Prim.Native.Nat.{_+_, _<_, _≤_};
 ghost use lib.Dec.{leb};
 ghost use lib.ListN.{length, drop};
 ghost use Rattle.program.specs.Text.{isDigit, unquoted};
 ghost use Rattle.program.specs.Vocabulary.{words, same, wordOf, numbered};
 ghost use Rattle.program.specs.Lines.{unknown as unknownLine, lineFrom, lineOf};
-ghost use Rattle.text.specs.Places.{part, atCrlf, recordEnd, fieldEnd, fieldsBehind, numberOf, writtenBehind};
+ghost use Rattle.text.specs.Places.{part, atCrlf, recordEnd, fieldEnd, saidBehind, numberOf, writtenBehind};
 use program::Line;
 
 const COMMA: u8 = 44;
@@ -22,6 +21,13 @@ const LF: u8 = 10;
 const DIGIT_ZERO: u8 = 48;
 
 const WORDS: u16 = 11;
+
+// The least and the greatest number of fields behind each word.
+const LEAST: [u16; 11] = [2, 2, 2, 2, 3, 4, 3, 2, 1, 2, 3];
+
+const GREATEST: [u16; 11] = [10, 6, 2, 2, 3, 4, 3, 2, 1, 2, 3];
+
+const MOST_NUMBERS: u16 = 10;
 
 // The number of a field, or that it is none.
 pub enum Number {
@@ -185,4 +191,77 @@ pub fn word_of(field: &[u8]) -> u16
         word += 1;
     }
     word
+}
+
+// The word may have that many fields behind it.
+fn count_fits(word: u16, count: u16) -> bool
+    requires { ⌜ word < words ⌝ }
+    ensures { λ r. ⌜ r ≡ (leb (numbered word .least) count && leb count (numbered word .greatest)) ⌝ }
+{
+    let w = word as usize;
+    if count < LEAST[w] {
+        return false;
+    }
+    count <= GREATEST[w]
+}
+
+fn unknown() -> Line
+    ensures { λ r. ⌜ r ≡ unknownLine ⌝ }
+{
+    Line {
+        word: WORDS,
+        count: 0,
+        numbers: [0, 0, 0, 0, 0, 0, 0, 0, 0, 0],
+    }
+}
+
+// The line of a word whose field ends at `from`, with the fields behind it.
+fn line_behind(bytes: &[u8], word: u16, from: usize) -> Line
+    requires { ⌜ (word < words) × (from ≤ length (now bytes)) ⌝ }
+    ensures { λ r. ⌜ r ≡ lineFrom word (saidBehind (now (bytes .entry)) from) ⌝ }
+{
+    let mut numbers: [u16; 10] = [0, 0, 0, 0, 0, 0, 0, 0, 0, 0];
+    let mut count: u16 = 0;
+    let mut at = from;
+    while at < bytes.len() {
+        if MOST_NUMBERS <= count {
+            return unknown();
+        }
+        let start = at + 1;
+        let end = field_end(bytes, start);
+        let Number::Value(value) = number_of(field(bytes, start, end)) else {
+            return unknown();
+        };
+        numbers[count as usize] = value;
+        count += 1;
+        at = end;
+    }
+    if !count_fits(word, count) {
+        return unknown();
+    }
+    Line {
+        word,
+        count,
+        numbers,
+    }
+}
+
+// What a record says.
+pub fn line_of(bytes: &[u8]) -> Line
+    ensures { λ r. ⌜ r ≡ lineOf (now (bytes .entry)) ⌝ }
+{
+    let end = field_end(bytes, 0);
+    let word = word_of(field(bytes, 0, end));
+    if WORDS <= word {
+        return unknown();
+    }
+    line_behind(bytes, word, end)
+}
+
+// What the record between two places of a text says.
+pub fn line_at(text: &[u8], from: usize, to: usize) -> Line
+    requires { ⌜ (from ≤ to) × (to ≤ length (now text)) ⌝ }
+    ensures { λ r. ⌜ r ≡ lineOf (part (now (text .entry)) from to) ⌝ }
+{
+    line_of(&text[from..to])
 }
