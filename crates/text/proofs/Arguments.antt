@@ -1,11 +1,10 @@
 -- The fields behind a word, read one after the other into the numbers of a line: what is known after each, and which line it makes.
-use Prim.Native.Nat.{ℕ, zero, suc, _+_, _-_, _<_, _≤_}
+use Prim.Native.Nat.{ℕ, suc, _+_, _-_, _<_, _≤_}
 use mathlib.Core.Path.{_≡_, refl, sym, ap, _∙_, subst}
 use mathlib.Core.Bool.{Bool, true, false, _&&_, cond}
 use mathlib.Core.List.{List, [], _∷_, _++_, map, map-append, append-assoc, append-nil}
 use native.Mathlib.Omega.{arith}
-use native.Mathlib.Numerals.{add-one}
-use borrow.Author.Tests.{lt-ltb, le-ltb, le-leb, lt-leb}
+use borrow.Author.Tests.{lt-ltb, le-ltb, lt-leb}
 use lib.Dec.{ltb, leb}
 use lib.ListN.{length, drop, set, replicate, length-append}
 use lib.Seq.{set-append-seam}
@@ -16,7 +15,6 @@ use Rattle.program.specs.Vocabulary.{words, wordOf, numbered}
 use Rattle.program.specs.Lines.{mostNumbers, unknown, lineClauses, lineFrom, lineOfFields, lineOf}
 use Rattle.program.specs.declared.Line.{Line}
 use Rattle.text.specs.Places.{part, fieldEnd, fieldsAfter, saidBehind, numberOf}
-use Rattle.text.specs.declared.Number.{Number}
 use Rattle.text.specs.declared.Number.the-variants.{Value, Not}
 use Rattle.text.proofs.Ends.{fields-next, said-next, said-end}
 use Rattle.text.proofs.Counts.{greatest-within}

@@ -1,6 +1,6 @@
 -- The laws of numbers: a digit more, a byte that is none, a value too large, the end; and the two tests before the digits are read.
-use Prim.Native.Nat.{ℕ, zero, suc, _+_, _-_, _*_, _<_, _≤_}
-use mathlib.Core.Path.{_≡_, refl, sym, ap, _∙_}
+use Prim.Native.Nat.{ℕ, _+_, _-_, _*_, _<_, _≤_}
+use mathlib.Core.Path.{_≡_, refl, sym, _∙_}
 use mathlib.Core.Bool.{Bool, true, false, not, _&&_, _||_, cond}
 use mathlib.Core.List.{List, [], _∷_}
 use native.Mathlib.Omega.{arith}
@@ -12,7 +12,6 @@ use lib.Seq.{drop-cons, drop-length}
 use Rattle.model.specs.Lists.{every, all}
 use Rattle.program.specs.Text.{isDigit, valueBehind, valueOf, isNumber}
 use Rattle.text.specs.Places.{writtenBehind, numberOf}
-use Rattle.text.specs.declared.Number.{Number}
 use Rattle.text.specs.declared.Number.the-variants.{Value, Not}
 
 pub digit-bounds : (b : ℕ) → isDigit b ≡ true → (48 ≤ b) × (b < 58)
@@ -22,10 +21,6 @@ digit-bounds b e = go (leb 48 b) refl (ltb b 58) refl e
     go true p true q e = (leb-true 48 b p, ltb-true b 58 q)
     go true p false q e = absurd (let z : _≡_ {A = Bool} false true = e in let y : _≡_ {A = ℕ} 0 1 = cc in omega arith)
     go false p y q e = absurd (let z : _≡_ {A = Bool} false true = e in let y : _≡_ {A = ℕ} 0 1 = cc in omega arith)
-
--- what is made of the test of the first byte, of those behind it, and of the value
-chosen : Bool → Bool → ℕ → Number
-chosen digits small value = cond (digits && small) (Value value) Not
 
 module _ (s : List ℕ) (i v : ℕ) (h : i < length s) where
   pub digits-more : isDigit (getD s i 0) ≡ true → writtenBehind (v * 10 + (getD s i 0 - 48)) (drop (i + 1) s) ≡ writtenBehind v (drop i s)

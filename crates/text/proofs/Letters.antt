@@ -39,14 +39,14 @@ same-end f w i e h l =
 
 -- ── a loop that looks for the first element that passes ──
 
-module _ {A : Type 0} (test : A → Bool) (l : List A) (d : A) (i : ℕ) where
-  pub place-more : i < length l → test (getD l i d) ≡ false → i + 1 + firstPlace test (drop (i + 1) l) ≡ i + firstPlace test (drop i l)
-  place-more h e =
+module _ {A : Type 0} (test : A → Bool) (l : List A) (i : ℕ) where
+  pub place-more : (d : A) → i < length l → test (getD l i d) ≡ false → i + 1 + firstPlace test (drop (i + 1) l) ≡ i + firstPlace test (drop i l)
+  place-more d h e =
       let r : firstPlace test (drop i l) ≡ suc (firstPlace test (drop (suc i) l)) = rw (drop-cons l i d h) (simp e) in
       rw add-one (omega (arith, r))
 
-  pub place-hit : i < length l → test (getD l i d) ≡ true → i + firstPlace test (drop i l) ≡ i
-  place-hit h e =
+  pub place-hit : (d : A) → i < length l → test (getD l i d) ≡ true → i + firstPlace test (drop i l) ≡ i
+  place-hit d h e =
       let r : firstPlace test (drop i l) ≡ 0 = rw (drop-cons l i d h) (simp e) in
       omega (arith, r)
 

@@ -3,7 +3,7 @@ use Prim.Native.Nat.{ℕ, suc, _+_, _-_}
 use mathlib.Core.Bool.{Bool, _&&_, cond}
 use mathlib.Core.List.{List, [], _∷_, map}
 use lib.Dec.{eqb, leb}
-use lib.ListN.{length, getD, take, drop}
+use lib.ListN.{getD, take, drop}
 use Rattle.model.specs.Lists.{all}
 use Rattle.program.specs.Text.{comma, cr, lf, fields, unquoted, isDigit, valueBehind, valueOf, isNumber}
 use Rattle.text.specs.declared.Number.{Number}

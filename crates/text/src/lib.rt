@@ -150,7 +150,7 @@ fn says(field: &[u8], word: &[u8]) -> bool
         return false;
     }
     let mut i = 0;
-    while i < field.len() {
+    while i < word.len() {
         if field[i] != word[i] {
             return false;
         }

@@ -4,22 +4,18 @@ use borrow.Author.Needs.{needs}
 use Rattle.text.proofs.count_fits.Statement.{statement}
 use Rattle.text.proofs.count_fits.Tie as tie
 
--- src/lib.rt:202:16
 mul-if1 : tie.Need-mul-if1
 mul-if1 c = search needs
 
--- src/lib.rt:202:16
 array-read-if1 : tie.Need-array-read-if1
 array-read-if1 c = search needs
 
 returns : tie.Need-returns
 returns c = rw (← least-is (c .before .args .word) (c .before .pre)) (simp (lt-leb _ _ (c .if1 .taken)))
 
--- src/lib.rt:205:14
 mul-result : tie.Need-mul-result
 mul-result c = search needs
 
--- src/lib.rt:205:14
 array-read-result : tie.Need-array-read-result
 array-read-result c = search needs
 

@@ -18,29 +18,26 @@ abbrev μ-loop : tie.MeasureT-loop
 loop-holds : tie.Need-loop-holds Inv-loop μ-loop
 loop-holds c = (search needs, refl)
 
--- src/lib.rt:66:12
 shared-slice-read-if1 : tie.Need-shared-slice-read-if1 Inv-loop μ-loop
 shared-slice-read-if1 c = search needs
 
 returns : tie.Need-returns Inv-loop μ-loop
 unfolding fieldEnd
-returns c = sym (end-stop atComma (c .before .before .before .before .args .bytes .now) (c .before .before .before .loop .i) (c .before .before .loop-test .taken) (comma-at (c .before .before .before .before .args .bytes .now) (c .before .before .before .loop .i) ∙ eq-eqb (getD (c .before .before .before .before .args .bytes .now) (c .before .before .before .loop .i) 0) 44 (c .if1 .taken))) ∙ c .before .before .before .loop .inv .1
+returns c = sym (end-stop atComma _ _ (c .before .before .loop-test .taken) (comma-at (c .before .before .before .before .args .bytes .now) (c .before .before .before .loop .i) ∙ eq-eqb (getD (c .before .before .before .before .args .bytes .now) (c .before .before .before .loop .i) 0) 44 (c .if1 .taken))) ∙ c .before .before .before .loop .inv .1
 
--- src/lib.rt:69:9
 add-i : tie.Need-add-i Inv-loop μ-loop
 add-i c = search needs
 
--- src/lib.rt:65:5
 loop-less : tie.Need-loop-less Inv-loop μ-loop
 loop-less c = search needs
 
 loop-again : tie.Need-loop-again Inv-loop μ-loop
 unfolding fieldEnd
-loop-again c = (search needs, end-more atComma (c .before .before .before .before .args .bytes .now) (c .before .before .before .loop .i) (c .before .before .loop-test .taken) (comma-at (c .before .before .before .before .args .bytes .now) (c .before .before .before .loop .i) ∙ ne-eqb (getD (c .before .before .before .before .args .bytes .now) (c .before .before .before .loop .i) 0) 44 (c .if1 .left)) ∙ c .before .before .before .loop .inv .1)
+loop-again c = (search needs, end-more atComma _ _ (c .before .before .loop-test .taken) (comma-at (c .before .before .before .before .args .bytes .now) (c .before .before .before .loop .i) ∙ ne-eqb (getD (c .before .before .before .before .args .bytes .now) (c .before .before .before .loop .i) 0) 44 (c .if1 .left)) ∙ c .before .before .before .loop .inv .1)
 
 returns-2 : tie.Need-returns-2 Inv-loop μ-loop
 unfolding fieldEnd
-returns-2 c = sym (end-past atComma (c .before .before .args .bytes .now) (c .before .loop .i) (c .before .loop .inv .0) (c .loop-test .left)) ∙ c .before .loop .inv .1
+returns-2 c = sym (end-past atComma _ _ (c .before .loop .inv .0) (c .loop-test .left)) ∙ c .before .loop .inv .1
 
 pub field-end-spec : {M : Type 1} → statement M
 field-end-spec =

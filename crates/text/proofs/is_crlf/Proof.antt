@@ -4,21 +4,18 @@ use borrow.Author.Needs.{needs}
 use Rattle.text.proofs.is_crlf.Statement.{statement}
 use Rattle.text.proofs.is_crlf.Tie as tie
 
--- src/lib.rt:34:8
 shared-slice-read-if1 : tie.Need-shared-slice-read-if1
 shared-slice-read-if1 c = search needs
 
 returns : tie.Need-returns
 returns c = sym (no-cr (c .before .before .args .text .now) (c .before .before .args .place) (c .if1 .taken))
 
--- src/lib.rt:37:16
 add-next : tie.Need-add-next
 add-next c = search needs
 
 returns-2 : tie.Need-returns-2
 returns-2 c = sym (cr-last (c .before .before .before .args .text .now) (c .before .before .before .args .place) (c .before .if1 .left) (c .if2 .taken))
 
--- src/lib.rt:41:5
 shared-slice-read-result : tie.Need-shared-slice-read-result
 shared-slice-read-result c = search needs
 

@@ -6,7 +6,6 @@ use Rattle.text.proofs.is_digit.Tie as tie
 returns : tie.Need-returns
 returns c = simp (lt-leb 48 _ (c .if1 .taken))
 
--- src/lib.rt:99:9
 add-result : tie.Need-add-result
 add-result c = search needs
 

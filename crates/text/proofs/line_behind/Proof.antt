@@ -1,6 +1,6 @@
 -- The invariant: of the fields behind the word, those before the place are taken.
-use Prim.Native.Nat.{_+_, _≤_, _-_}
-use mathlib.Core.Path.{_≡_, refl, sym, _∙_}
+use Prim.Native.Nat.{_≤_, _-_}
+use mathlib.Core.Path.{sym, _∙_}
 use native.Mathlib.Omega.{arith}
 use lib.ListN.{length}
 use borrow.Author.Tests.{not-true, not-false}
@@ -21,78 +21,65 @@ abbrev μ-loop : tie.MeasureT-loop
 loop-holds : tie.Need-loop-holds Inv-loop μ-loop
 loop-holds c = (search needs, search needs, taken-none _)
 
--- src/lib.rt:228:13
 unknown-requires : tie.Need-unknown-requires Inv-loop μ-loop
 unknown-requires c κs = search needs
 
 returns : tie.Need-returns Inv-loop μ-loop
-returns c = c .unknown .ensures ∙ too-many (c .before .before .before .before .before .args .word) _ (c .before .before .before .before .before .pre .0) (omega (arith, c .before .if1 .taken, one-longer (c .before .before .before .before .before .args .bytes .now) _ (c .before .before .before .loop .at) (c .before .before .before .loop .count) (c .before .before .before .loop .numbers) (c .before .before .before .loop .inv .2) (c .before .before .loop-test .taken)))
+returns c = c .unknown .ensures ∙ too-many _ _ (c .before .before .before .before .before .pre .0) (omega (arith, c .before .if1 .taken, one-longer _ _ _ _ _ (c .before .before .before .loop .inv .2) (search needs)))
 
--- src/lib.rt:230:21
 add-start : tie.Need-add-start Inv-loop μ-loop
 add-start c = search needs
 
--- src/lib.rt:231:13
 field-end-requires : tie.Need-field-end-requires Inv-loop μ-loop
 field-end-requires c κs = search needs
 
 field-requires : tie.Need-field-requires Inv-loop μ-loop
-field-requires c κs = field-within (c .before .before .before .before .before .args .bytes .now) _ _ (c .field-end .ensures) (search needs)
+field-requires c κs = field-within _ _ _ (c .field-end .ensures) (search needs)
 
--- src/lib.rt:232:36
 number-of-requires : tie.Need-number-of-requires Inv-loop μ-loop
 number-of-requires c κs = search needs
 
--- src/lib.rt:232:27
 enum-known-value : tie.Need-enum-known-value Inv-loop μ-loop
 enum-known-value c = search needs
 
--- src/lib.rt:233:13
 enum-told : tie.Need-enum-told Inv-loop μ-loop
 enum-told c = search needs
 
--- src/lib.rt:233:13
 unknown-requires-2 : tie.Need-unknown-requires-2 Inv-loop μ-loop
 unknown-requires-2 c κs = search needs
 
 returns-2 : tie.Need-returns-2 Inv-loop μ-loop
-returns-2 c = c .unknown2 .ensures ∙ not-numbers (c .before .before .before .before .before .before .before .before .before .before .args .word) _ (c .before .before .before .before .before .before .before .before .before .before .pre .0) (one-not (c .before .before .before .before .before .before .before .before .before .before .args .bytes .now) _ (c .before .before .before .before .before .before .before .before .loop .at) (c .before .before .before .before .before .before .before .before .loop .count) (c .before .before .before .before .before .before .before .before .loop .numbers) (c .before .before .before .before .before .before .before .before .loop .inv .2) (c .before .before .before .before .before .before .before .loop-test .taken) (c .before .before .before .before .before .field-end .result) (c .before .before .before .before .before .field-end .ensures) (c .before .before .before .before .field .result .now) (c .before .before .before .before .field .ensures) (sym (c .before .before .before .number-of .ensures) ∙ c .before .enum-told .given .1))
+returns-2 c = c .unknown2 .ensures ∙ not-numbers _ _ (c .before .before .before .before .before .before .before .before .before .before .pre .0) (one-not _ _ _ _ _ (c .before .before .before .before .before .before .before .before .loop .inv .2) (search needs) _ (c .before .before .before .before .before .field-end .ensures) _ (c .before .before .before .before .field .ensures) (sym (c .before .before .before .number-of .ensures) ∙ c .before .enum-told .given .1))
 
--- src/lib.rt:235:17
 cast-numbers : tie.Need-cast-numbers Inv-loop μ-loop
 cast-numbers c = search needs
 
--- src/lib.rt:235:9
 mul-numbers : tie.Need-mul-numbers Inv-loop μ-loop
 mul-numbers c = search needs
 
--- src/lib.rt:235:9
 array-write-numbers : tie.Need-array-write-numbers Inv-loop μ-loop
 array-write-numbers c = search needs
 
--- src/lib.rt:236:9
 add-count : tie.Need-add-count Inv-loop μ-loop
 add-count c = search needs
 
 loop-less : tie.Need-loop-less Inv-loop μ-loop
-loop-less c = let w = field-within (c .before .before .before .before .before .before .before .before .before .before .args .bytes .now) (c .before .before .before .before .before .before .before .before .loop .at + 1) (c .before .before .before .before .before .field-end .result) (c .before .before .before .before .before .field-end .ensures) (search needs) in omega (arith, w .0, w .1, c .before .before .before .before .before .before .before .loop-test .taken)
+loop-less c = let w = field-within _ _ _ (c .before .before .before .before .before .field-end .ensures) (search needs) in omega (arith, w .0, w .1, c .before .before .before .before .before .before .before .loop-test .taken)
 
 loop-again : tie.Need-loop-again Inv-loop μ-loop
-loop-again c = (field-within (c .before .before .before .before .before .before .before .before .before .before .args .bytes .now) _ _ (c .before .before .before .before .before .field-end .ensures) (search needs) .1, search needs, one-more (c .before .before .before .before .before .before .before .before .before .before .args .bytes .now) _ (c .before .before .before .before .before .before .before .before .loop .at) (c .before .before .before .before .before .before .before .before .loop .count) (c .before .before .before .before .before .before .before .before .loop .numbers) (c .before .before .before .before .before .before .before .before .loop .inv .2) (c .before .before .before .before .before .before .before .loop-test .taken) (c .before .before .before .before .before .field-end .result) (c .before .before .before .before .before .field-end .ensures) (c .before .before .before .before .field .result .now) (c .before .before .before .before .field .ensures) _ (c .before .before .before .before .before .before .if1 .left) (sym (c .before .before .before .number-of .ensures) ∙ c .before .value .given .1))
+loop-again c = (field-within _ _ _ (c .before .before .before .before .before .field-end .ensures) (search needs) .1, search needs, one-more _ _ _ _ _ (c .before .before .before .before .before .before .before .before .loop .inv .2) (search needs) _ (c .before .before .before .before .before .field-end .ensures) _ (c .before .before .before .before .field .ensures) _ (c .before .before .before .before .before .before .if1 .left) (sym (c .before .before .before .number-of .ensures) ∙ c .before .value .given .1))
 
--- src/lib.rt:239:9
 count-fits-requires : tie.Need-count-fits-requires Inv-loop μ-loop
 count-fits-requires c κs = search needs
 
--- src/lib.rt:240:9
 unknown-requires-3 : tie.Need-unknown-requires-3 Inv-loop μ-loop
 unknown-requires-3 c κs = search needs
 
 returns-3 : tie.Need-returns-3 Inv-loop μ-loop
-returns-3 c = c .unknown3 .ensures ∙ count-wrong (c .before .before .before .before .before .before .args .word) _ (c .before .before .before .before .before .before .pre .0) (c .before .before .before .before .loop .count) (c .before .before .before .before .loop .numbers) (none-left (c .before .before .before .before .before .before .args .bytes .now) _ (c .before .before .before .before .loop .at) (c .before .before .before .before .loop .count) (c .before .before .before .before .loop .numbers) (c .before .before .before .before .loop .inv .2) (c .before .before .before .before .loop .inv .0) (c .before .before .before .loop-test .left)) (sym (c .before .before .count-fits .ensures) ∙ not-true _ (c .before .if2 .taken))
+returns-3 c = c .unknown3 .ensures ∙ count-wrong _ _ (c .before .before .before .before .before .before .pre .0) _ _ (none-left _ _ _ _ _ (c .before .before .before .before .loop .inv .2) (c .before .before .before .before .loop .inv .0) (search needs)) (sym (c .before .before .count-fits .ensures) ∙ not-true _ (c .before .if2 .taken))
 
 returns-4 : tie.Need-returns-4 Inv-loop μ-loop
-returns-4 c = whole-line (c .before .before .before .before .before .args .word) _ (c .before .before .before .before .before .pre .0) (c .before .before .before .loop .count) (c .before .before .before .loop .numbers) (none-left (c .before .before .before .before .before .args .bytes .now) _ (c .before .before .before .loop .at) (c .before .before .before .loop .count) (c .before .before .before .loop .numbers) (c .before .before .before .loop .inv .2) (c .before .before .before .loop .inv .0) (c .before .before .loop-test .left)) (sym (c .before .count-fits .ensures) ∙ not-false _ (c .if2 .left))
+returns-4 c = whole-line _ _ (c .before .before .before .before .before .pre .0) _ _ (none-left _ _ _ _ _ (c .before .before .before .loop .inv .2) (c .before .before .before .loop .inv .0) (search needs)) (sym (c .before .count-fits .ensures) ∙ not-false _ (c .if2 .left))
 
 pub line-behind-spec : {M : Type 1} → statement M
 line-behind-spec =

@@ -6,28 +6,25 @@ use Rattle.text.proofs.number_of.Statement.{statement}
 use Rattle.text.proofs.number_of.Tie as tie
 
 returns : tie.Need-returns
-returns c = sym (number-none (c .before .before .args .field .now) (c .if1 .taken))
+returns c = sym (number-none _ (c .if1 .taken))
 
--- src/lib.rt:132:9
 written-requires : tie.Need-written-requires
 written-requires c κs = search needs
 
 returns-2 : tie.Need-returns-2
-returns-2 c = c .written .ensures ∙ number-one (c .before .before .before .before .args .field .now) (c .before .if2 .taken)
+returns-2 c = c .written .ensures ∙ number-one _ (c .before .if2 .taken)
 
--- src/lib.rt:134:8
 shared-slice-read-if3 : tie.Need-shared-slice-read-if3
 shared-slice-read-if3 c = search needs
 
 returns-3 : tie.Need-returns-3
-returns-3 c = sym (number-zero (c .before .before .before .before .before .args .field .now) (omega (arith, c .before .before .before .if1 .left, c .before .before .if2 .left)) (c .if3 .taken))
+returns-3 c = sym (number-zero _ (omega (arith, c .before .before .before .if1 .left, c .before .before .if2 .left)) (c .if3 .taken))
 
--- src/lib.rt:137:5
 written-requires-2 : tie.Need-written-requires-2
 written-requires-2 c κs = search needs
 
 returns-4 : tie.Need-returns-4
-returns-4 c = c .written2 .ensures ∙ number-more (c .before .before .before .before .before .before .args .field .now) (omega (arith, c .before .before .before .before .if1 .left, c .before .before .before .if2 .left)) (c .before .if3 .left)
+returns-4 c = c .written2 .ensures ∙ number-more _ (omega (arith, c .before .before .before .before .if1 .left, c .before .before .before .if2 .left)) (c .before .if3 .left)
 
 pub number-of-spec : {M : Type 1} → statement M
 number-of-spec =

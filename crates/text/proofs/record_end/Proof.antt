@@ -17,29 +17,26 @@ abbrev μ-loop : tie.MeasureT-loop
 loop-holds : tie.Need-loop-holds Inv-loop μ-loop
 loop-holds c = (search needs, refl)
 
--- src/lib.rt:51:12
 is-crlf-requires : tie.Need-is-crlf-requires Inv-loop μ-loop
 is-crlf-requires c κs = search needs
 
 returns : tie.Need-returns Inv-loop μ-loop
 unfolding recordEnd
-returns c = sym (end-stop atCrlf (c .before .before .before .before .before .args .text .now) (c .before .before .before .loop .i) (c .before .before .loop-test .taken) (sym (c .before .is-crlf .ensures) ∙ c .if1 .taken)) ∙ c .before .before .before .loop .inv .1
+returns c = sym (end-stop atCrlf _ _ (c .before .before .loop-test .taken) (sym (c .before .is-crlf .ensures) ∙ c .if1 .taken)) ∙ c .before .before .before .loop .inv .1
 
--- src/lib.rt:54:9
 add-i : tie.Need-add-i Inv-loop μ-loop
 add-i c = search needs
 
--- src/lib.rt:50:5
 loop-less : tie.Need-loop-less Inv-loop μ-loop
 loop-less c = search needs
 
 loop-again : tie.Need-loop-again Inv-loop μ-loop
 unfolding recordEnd
-loop-again c = (search needs, end-more atCrlf (c .before .before .before .before .before .args .text .now) (c .before .before .before .loop .i) (c .before .before .loop-test .taken) (sym (c .before .is-crlf .ensures) ∙ c .if1 .left) ∙ c .before .before .before .loop .inv .1)
+loop-again c = (search needs, end-more atCrlf _ _ (c .before .before .loop-test .taken) (sym (c .before .is-crlf .ensures) ∙ c .if1 .left) ∙ c .before .before .before .loop .inv .1)
 
 returns-2 : tie.Need-returns-2 Inv-loop μ-loop
 unfolding recordEnd
-returns-2 c = sym (end-past atCrlf (c .before .before .before .args .text .now) (c .before .loop .i) (c .before .loop .inv .0) (c .loop-test .left)) ∙ c .before .loop .inv .1
+returns-2 c = sym (end-past atCrlf _ _ (c .before .loop .inv .0) (c .loop-test .left)) ∙ c .before .loop .inv .1
 
 pub record-end-spec : {M : Type 1} → statement M
 record-end-spec =

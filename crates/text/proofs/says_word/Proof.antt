@@ -4,91 +4,69 @@ use borrow.Author.Needs.{needs}
 use Rattle.text.proofs.says_word.Statement.{statement}
 use Rattle.text.proofs.says_word.Tie as tie
 
--- src/lib.rt:162:26
 slice-aggregate-says : tie.Need-slice-aggregate-says
 slice-aggregate-says c = search needs
 
--- src/lib.rt:162:14
 says-requires : tie.Need-says-requires
 says-requires c κs = search needs
 
--- src/lib.rt:163:26
 slice-aggregate-says-2 : tie.Need-slice-aggregate-says-2
 slice-aggregate-says-2 c = search needs
 
--- src/lib.rt:163:14
 says-requires-2 : tie.Need-says-requires-2
 says-requires-2 c κs = search needs
 
--- src/lib.rt:164:26
 slice-aggregate-says-3 : tie.Need-slice-aggregate-says-3
 slice-aggregate-says-3 c = search needs
 
--- src/lib.rt:164:14
 says-requires-3 : tie.Need-says-requires-3
 says-requires-3 c κs = search needs
 
--- src/lib.rt:165:26
 slice-aggregate-says-4 : tie.Need-slice-aggregate-says-4
 slice-aggregate-says-4 c = search needs
 
--- src/lib.rt:165:14
 says-requires-4 : tie.Need-says-requires-4
 says-requires-4 c κs = search needs
 
--- src/lib.rt:166:26
 slice-aggregate-says-5 : tie.Need-slice-aggregate-says-5
 slice-aggregate-says-5 c = search needs
 
--- src/lib.rt:166:14
 says-requires-5 : tie.Need-says-requires-5
 says-requires-5 c κs = search needs
 
--- src/lib.rt:167:26
 slice-aggregate-says-6 : tie.Need-slice-aggregate-says-6
 slice-aggregate-says-6 c = search needs
 
--- src/lib.rt:167:14
 says-requires-6 : tie.Need-says-requires-6
 says-requires-6 c κs = search needs
 
--- src/lib.rt:168:26
 slice-aggregate-says-7 : tie.Need-slice-aggregate-says-7
 slice-aggregate-says-7 c = search needs
 
--- src/lib.rt:168:14
 says-requires-7 : tie.Need-says-requires-7
 says-requires-7 c κs = search needs
 
--- src/lib.rt:169:26
 slice-aggregate-says-8 : tie.Need-slice-aggregate-says-8
 slice-aggregate-says-8 c = search needs
 
--- src/lib.rt:169:14
 says-requires-8 : tie.Need-says-requires-8
 says-requires-8 c κs = search needs
 
--- src/lib.rt:170:26
 slice-aggregate-says-9 : tie.Need-slice-aggregate-says-9
 slice-aggregate-says-9 c = search needs
 
--- src/lib.rt:170:14
 says-requires-9 : tie.Need-says-requires-9
 says-requires-9 c κs = search needs
 
--- src/lib.rt:171:26
 slice-aggregate-says-10 : tie.Need-slice-aggregate-says-10
 slice-aggregate-says-10 c = search needs
 
--- src/lib.rt:171:14
 says-requires-10 : tie.Need-says-requires-10
 says-requires-10 c κs = search needs
 
--- src/lib.rt:172:26
 slice-aggregate-says-11 : tie.Need-slice-aggregate-says-11
 slice-aggregate-says-11 c = search needs
 
--- src/lib.rt:172:14
 says-requires-11 : tie.Need-says-requires-11
 says-requires-11 c κs = search needs
 
@@ -123,7 +101,7 @@ returns-10 : tie.Need-returns-10
 returns-10 c = c .says10 .ensures ∙ at-number (c .before .before .before .before .args .field .now) 9 (c .before .before .match .keys10)
 
 returns-11 : tie.Need-returns-11
-returns-11 c = c .says11 .ensures ∙ at-number (c .before .before .before .before .args .field .now) 10 (the-last (c .before .before .before .before .args .word) 10 (c .before .before .before .before .pre) (c .before .before .match .rest))
+returns-11 c = c .says11 .ensures ∙ at-number (c .before .before .before .before .args .field .now) 10 (the-last _ 10 (c .before .before .before .before .pre) (c .before .before .match .rest))
 
 pub says-word-spec : {M : Type 1} → statement M
 says-word-spec =

@@ -4,7 +4,7 @@ use mathlib.Core.Path.{_≡_, sym, _∙_}
 use native.Mathlib.Nat.{zero-add}
 use lib.ListN.{drop}
 use Rattle.model.specs.Lists.{firstPlace}
-use Rattle.program.specs.Vocabulary.{Word, words, vocabulary, same, wordOf, _with_to_}
+use Rattle.program.specs.Vocabulary.{Word, words, vocabulary, same, wordOf}
 use Rattle.text.proofs.Letters.{place-more, place-hit, place-end}
 use borrow.Author.Needs.{needs}
 use Rattle.text.proofs.word_of.Statement.{statement}
@@ -20,26 +20,23 @@ loop-holds : tie.Need-loop-holds Inv-loop μ-loop
 unfolding wordOf
 loop-holds c = (search needs, zero-add _)
 
--- src/lib.rt:182:12
 says-word-requires : tie.Need-says-word-requires Inv-loop μ-loop
 says-word-requires c κs = search needs
 
 returns : tie.Need-returns Inv-loop μ-loop
-returns c = sym (place-hit (λ (w : Word). same (c .before .before .before .before .before .args .field .now) (w .letters)) vocabulary ("" with 0 to 0) (c .before .before .before .loop .word) (c .before .before .loop-test .taken) (sym (c .before .says-word .ensures) ∙ c .if1 .taken)) ∙ c .before .before .before .loop .inv .1
+returns c = sym (place-hit (λ (w : Word). same (c .before .before .before .before .before .args .field .now) (w .letters)) vocabulary _ _ (c .before .before .loop-test .taken) (sym (c .before .says-word .ensures) ∙ c .if1 .taken)) ∙ c .before .before .before .loop .inv .1
 
--- src/lib.rt:185:9
 add-word : tie.Need-add-word Inv-loop μ-loop
 add-word c = search needs
 
--- src/lib.rt:181:5
 loop-less : tie.Need-loop-less Inv-loop μ-loop
 loop-less c = search needs
 
 loop-again : tie.Need-loop-again Inv-loop μ-loop
-loop-again c = (search needs, place-more (λ (w : Word). same (c .before .before .before .before .before .args .field .now) (w .letters)) vocabulary ("" with 0 to 0) (c .before .before .before .loop .word) (c .before .before .loop-test .taken) (sym (c .before .says-word .ensures) ∙ c .if1 .left) ∙ c .before .before .before .loop .inv .1)
+loop-again c = (search needs, place-more (λ (w : Word). same (c .before .before .before .before .before .args .field .now) (w .letters)) vocabulary _ _ (c .before .before .loop-test .taken) (sym (c .before .says-word .ensures) ∙ c .if1 .left) ∙ c .before .before .before .loop .inv .1)
 
 returns-2 : tie.Need-returns-2 Inv-loop μ-loop
-returns-2 c = sym (place-end (λ (w : Word). same (c .before .before .before .args .field .now) (w .letters)) vocabulary ("" with 0 to 0) (c .before .loop .word) (c .before .loop .inv .0) (c .loop-test .left)) ∙ c .before .loop .inv .1
+returns-2 c = sym (place-end (λ (w : Word). same (c .before .before .before .args .field .now) (w .letters)) vocabulary _ (c .before .loop .inv .0) (c .loop-test .left)) ∙ c .before .loop .inv .1
 
 pub word-of-spec : {M : Type 1} → statement M
 word-of-spec =

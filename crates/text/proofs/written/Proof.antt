@@ -19,18 +19,15 @@ abbrev μ-loop : tie.MeasureT-loop
 loop-holds : tie.Need-loop-holds Inv-loop μ-loop
 loop-holds c = (search needs, search needs, refl)
 
--- src/lib.rt:109:17
 shared-slice-read-b : tie.Need-shared-slice-read-b Inv-loop μ-loop
 shared-slice-read-b c = search needs
 
--- src/lib.rt:110:13
 is-digit-requires : tie.Need-is-digit-requires Inv-loop μ-loop
 is-digit-requires c κs = search needs
 
 returns : tie.Need-returns Inv-loop μ-loop
-returns c = sym (digits-stop (c .before .before .before .before .before .before .args .field .now) (c .before .before .before .before .loop .i) (c .before .before .before .before .loop .value) (c .before .before .before .loop-test .taken) (sym (c .before .is-digit .ensures) ∙ not-true _ (c .if1 .taken))) ∙ c .before .before .before .before .loop .inv .2
+returns c = sym (digits-stop _ _ _ (c .before .before .before .loop-test .taken) (sym (c .before .is-digit .ensures) ∙ not-true _ (c .if1 .taken))) ∙ c .before .before .before .before .loop .inv .2
 
--- src/lib.rt:113:21
 cast-next : tie.Need-cast-next Inv-loop μ-loop
 cast-next c = search needs
 
@@ -47,25 +44,22 @@ add-next : tie.Need-add-next Inv-loop μ-loop
 add-next c = omega (arith, digit-bounds (getD (c .before .before .before .before .before .before .args .field .now) (c .before .before .before .before .loop .i) 0) (sym (c .before .is-digit .ensures) ∙ not-false _ (c .if1 .left)) .1)
 
 returns-2 : tie.Need-returns-2 Inv-loop μ-loop
-returns-2 c = sym (digits-large (c .before .before .before .before .before .before .before .args .field .now) (c .before .before .before .before .before .loop .i) (c .before .before .before .before .before .loop .value) (c .before .before .before .before .loop-test .taken) (sym (c .before .before .is-digit .ensures) ∙ not-false _ (c .before .if1 .left)) (c .if2 .taken)) ∙ c .before .before .before .before .before .loop .inv .2
+returns-2 c = sym (digits-large _ _ _ (c .before .before .before .before .loop-test .taken) (sym (c .before .before .is-digit .ensures) ∙ not-false _ (c .before .if1 .left)) (search needs)) ∙ c .before .before .before .before .before .loop .inv .2
 
--- src/lib.rt:117:17
 cast-value : tie.Need-cast-value Inv-loop μ-loop
 cast-value c = search needs
 
--- src/lib.rt:118:9
 add-i : tie.Need-add-i Inv-loop μ-loop
 add-i c = search needs
 
--- src/lib.rt:108:5
 loop-less : tie.Need-loop-less Inv-loop μ-loop
 loop-less c = search needs
 
 loop-again : tie.Need-loop-again Inv-loop μ-loop
-loop-again c = (search needs, search needs, digits-more (c .before .before .before .before .before .before .before .args .field .now) (c .before .before .before .before .before .loop .i) (c .before .before .before .before .before .loop .value) (c .before .before .before .before .loop-test .taken) (sym (c .before .before .is-digit .ensures) ∙ not-false _ (c .before .if1 .left)) ∙ c .before .before .before .before .before .loop .inv .2)
+loop-again c = (search needs, search needs, digits-more _ _ _ (c .before .before .before .before .loop-test .taken) (sym (c .before .before .is-digit .ensures) ∙ not-false _ (c .before .if1 .left)) ∙ c .before .before .before .before .before .loop .inv .2)
 
 returns-3 : tie.Need-returns-3 Inv-loop μ-loop
-returns-3 c = sym (digits-end (c .before .before .before .args .field .now) (c .before .loop .i) (c .before .loop .value) (c .before .loop .inv .0) (c .loop-test .left) (c .before .loop .inv .1)) ∙ c .before .loop .inv .2
+returns-3 c = sym (digits-end _ _ _ (c .before .loop .inv .0) (c .loop-test .left) (c .before .loop .inv .1)) ∙ c .before .loop .inv .2
 
 pub written-spec : {M : Type 1} → statement M
 written-spec =
