@@ -1,0 +1,4 @@
+pub mod Text
+pub mod Vocabulary
+pub mod Lines
+pub mod Program
