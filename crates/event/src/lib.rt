@@ -1,0 +1,52 @@
+// What an event of the program answers. The policy is judged once, before the first event; a call leaves a sound state, so no state is
+// judged at all.
+ghost use mathlib.Core.Path.{_≡_};
+ghost use Prim.Native.Nat.{_<_, _≤_};
+ghost use lib.Dec.{T};
+ghost use Rattle.model.specs.Layout.{policyOf};
+ghost use Rattle.model.specs.Sound.{sound};
+ghost use Rattle.model.specs.Words.{Sound};
+ghost use Rattle.program.specs.Vocabulary.{words, policyWords};
+ghost use Rattle.program.specs.Program.{callOf};
+ghost use Rattle.inner.specs.Lent.{lent, Answers};
+ghost use Rattle.event.specs.Standing.{Standing};
+use model::Answer;
+use program::Line;
+
+// The call that the line makes, on sound tables.
+fn call(rules: &[u16], kinds: &[u16], rights: &[u16], state: &mut [u16], line: Line) -> Answer
+    requires { ⌜ Sound (lent (now rules) (now kinds) (now rights)) (now state) × (policyWords ≤ line .word) × (line .word < words) ⌝ }
+    ensures { λ r. ⌜ Answers (lent (now (rules .entry)) (now (kinds .entry)) (now (rights .entry))) (now (state .entry)) (callOf line) r (now (state .exit)) ⌝ }
+{
+    let word = line.word;
+    let n = line.numbers;
+    match word {
+        3 => inner::activate(rules, kinds, rights, state, n[0], n[1]),
+        4 => inner::appoint(rules, kinds, rights, state, n[0], n[1], n[2]),
+        5 => inner::revoke(rules, kinds, rights, state, n[0], n[1], n[2], n[3]),
+        6 => inner::withdraw(rules, kinds, rights, state, n[0], n[1], n[2]),
+        7 => inner::environment(rules, kinds, rights, state, n[0], n[1]),
+        8 => inner::logout(rules, kinds, rights, state, n[0]),
+        9 => query::invoke(rules, kinds, rights, state, n[0], n[1]),
+        _ => query::effective(rules, kinds, rights, state, n[0], n[1], n[2]),
+    }
+}
+
+// With a malformed policy every event answers 1.
+pub fn answer_event(
+    rules: &[u16],
+    kinds: &[u16],
+    rights: &[u16],
+    judged: bool,
+    state: &mut [u16],
+    line: Line,
+) -> Answer
+    requires { ⌜ Standing (lent (now rules) (now kinds) (now rights)) (now state) judged × (policyWords ≤ line .word) × (line .word < words) ⌝ }
+    ensures answer { λ r. ⌜ Answers (lent (now (rules .entry)) (now (kinds .entry)) (now (rights .entry))) (now (state .entry)) (callOf line) r (now (state .exit)) ⌝ }
+    ensures kept { λ r. ⌜ T (sound (policyOf (lent (now (rules .entry)) (now (kinds .entry)) (now (rights .entry)))) (now (state .exit))) ⌝ }
+{
+    if !judged {
+        return Answer { code: 1, second: 0 };
+    }
+    call(rules, kinds, rights, state, line)
+}
