@@ -131,6 +131,10 @@ said-end s i h l =
     let e : i ≡ length s = omega arith in
     ap (λ (k : ℕ). map unquoted (fieldsAfter (drop k s))) e ∙ ap (λ (k : List ℕ). map unquoted (fieldsAfter k)) (drop-length s)
 
+pub record-within : (s : List ℕ) (i : ℕ) → i ≤ length s → (i ≤ recordEnd s i) × (recordEnd s i ≤ length s)
+unfolding recordEnd
+record-within s i h = end-within atCrlf s i h
+
 pub field-within : (s : List ℕ) (i end : ℕ) → end ≡ fieldEnd s i → i ≤ length s → (i ≤ end) × (end ≤ length s)
 unfolding fieldEnd
 field-within s i end e h = let w = end-within atComma s i h in (omega (arith, e, w .0), omega (arith, e, w .1))
