@@ -1,1 +1,2 @@
 pub mod Worked
+pub mod Counted

@@ -14,7 +14,7 @@ use Rattle.model.specs.Sound.{conditionFits, ruleClauses, kindClauses, rightCla
 use Rattle.model.specs.Effective.{direct, effectively}
 use Rattle.model.specs.Outcome.{judgedFirst, decided}
 use Rattle.model.specs.Calls.{settled, activateOn, appointOn, revokeOn, withdrawOn, environmentOn, logoutOn, allowed, invokeOn, effectiveOn, chainOn, freshOn, courseOf, answer}
-use Rattle.program.specs.Text.{ascii, isQuoted, unquoted, isNumber}
+use Rattle.program.specs.Text.{ascii, decimal, isQuoted, unquoted, isNumber}
 use Rattle.program.specs.Vocabulary.{same, wordOf}
 use Rattle.program.specs.Lines.{lineClauses, lineFrom, lineOf}
 use Rattle.program.specs.Program.{Machine, isBad, withRow, callOf, badWays, afterBad, afterPolicy, afterEvent, step, program}
@@ -62,6 +62,31 @@ session =
           ∷ "logout,20"
           ∷ []);
       output = lines ("0,3" ∷ "0,0" ∷ "5,0" ∷ "0,0" ∷ "0,1" ∷ "5,0" ∷ "0,0" ∷ "0,2" ∷ "0,0" ∷ "0,1" ∷ "0,2" ∷ "0,0" ∷ "0,1" ∷ []);
+    }
+    ∷ []
+
+-- the two event words that the session has not, each argument another number: user 5 appoints user 8, and role 2 falls with the
+-- certificate
+events : List Case
+events =
+    record {
+      input =
+          lines
+          ("rule,1,0"
+          ∷ "kind,1,0"
+          ∷ "rule,2,1,256"
+          ∷ "right,2,7"
+          ∷ "activate,5,1"
+          ∷ "appoint,5,8,0"
+          ∷ "activate,8,2"
+          ∷ "effective,8,2,7"
+          ∷ "effective,8,2,9"
+          ∷ "effective,5,2,7"
+          ∷ "withdraw,5,0,8"
+          ∷ "withdraw,8,0,5"
+          ∷ "effective,8,2,7"
+          ∷ []);
+      output = lines ("0,0" ∷ "0,0" ∷ "0,1" ∷ "0,1" ∷ "0,0" ∷ "12,0" ∷ "9,0" ∷ "0,1" ∷ "12,0" ∷ []);
     }
     ∷ []
 
@@ -159,6 +184,7 @@ limits : List Case
 limits =
     record { input = kinds 128 ++ ascii "logout,1"; output = ascii "0,0\r\n" }
     ∷ record { input = kinds 129 ++ ascii "logout,1"; output = ascii "bad,129\r\n" }
+    ∷ record { input = ascii "logout,1\r\n" ++ replicate 65526 120; output = ascii "0,0\r\nbad,2\r\n" }
     ∷ record { input = ascii "logout,1\r\n" ++ replicate 65527 120; output = ascii "bad,0\r\n" }
     ∷ []
   where
@@ -166,10 +192,10 @@ limits =
     kinds times = joined ascii (replicate times "kind,1,0\r\n")
 
 table : List (List Case)
-table = session ∷ records-cut ∷ quoting ∷ numbers ∷ words-and-counts ∷ policies ∷ limits ∷ []
+table = session ∷ events ∷ records-cut ∷ quoting ∷ numbers ∷ words-and-counts ∷ policies ∷ limits ∷ []
 
 cases : all (all goesRight) table ≡ true
-unfolding table session records-cut quoting numbers words-and-counts policies limits policyOf decode encode meant active someStands holds satisfied supported rolesAsked restsOn left conditionFits ruleClauses kindClauses rightClauses policyClauses rowClauses certificateClauses formClauses soundRecords sound direct effectively judgedFirst decided settled activateOn appointOn revokeOn withdrawOn environmentOn logoutOn allowed invokeOn effectiveOn chainOn freshOn courseOf answer isQuoted unquoted isNumber wordOf lineClauses lineFrom lineOf withRow callOf badWays afterBad afterPolicy afterEvent step program
+unfolding table session events records-cut quoting numbers words-and-counts policies limits policyOf decode encode meant active someStands holds satisfied supported rolesAsked restsOn left conditionFits ruleClauses kindClauses rightClauses policyClauses rowClauses certificateClauses formClauses soundRecords sound direct effectively judgedFirst decided settled activateOn appointOn revokeOn withdrawOn environmentOn logoutOn allowed invokeOn effectiveOn chainOn freshOn courseOf answer isQuoted unquoted isNumber wordOf lineClauses lineFrom lineOf withRow callOf badWays afterBad afterPolicy afterEvent step program
 cases = refl
 
 -- a machine that has taken so many rows of zeros into its rules and its rights
@@ -199,3 +225,15 @@ full-tables :
     ≡ true
 unfolding isQuoted unquoted isNumber wordOf lineClauses lineFrom lineOf badWays
 full-tables = refl
+
+-- numbers as they are written
+written-numbers :
+    every
+    (same (decimal 0) (ascii "0")
+    ∷ same (decimal 9) (ascii "9")
+    ∷ same (decimal 10) (ascii "10")
+    ∷ same (decimal 109) (ascii "109")
+    ∷ same (decimal 65535) (ascii "65535")
+    ∷ [])
+    ≡ true
+written-numbers = refl

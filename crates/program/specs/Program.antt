@@ -11,7 +11,7 @@ use Rattle.model.specs.Layout.{encode, number}
 use Rattle.model.specs.Outcome.{Outcome}
 use Rattle.model.specs.Calls.{Call, fresh, activate, appoint, revoke, withdraw, environment, logout, invoke, effective, nothing, answer}
 use Rattle.program.specs.Text.{ascii, comma, cr, lf, records, decimal}
-use Rattle.program.specs.Vocabulary.{policyWords}
+use Rattle.program.specs.Vocabulary.{ruleWord, kindWord, rightWord, policyWords}
 use Rattle.program.specs.Lines.{isUnknown, lineOf}
 use Rattle.program.specs.declared.Line.{Line}
 
@@ -56,12 +56,13 @@ kindRow l = number (l .numbers) 0 ∷ number (l .numbers) 1 ∷ (l .count - 2) �
 abbrev pub rightRow : Line → List ℕ
 rightRow l = take 2 (l .numbers)
 
+-- a line of the policy is one row more of its table
 unfoldable pub withRow : Tables → Line → Tables
 withRow t l =
     record {
-      rules = t .rules ++ cond (eqb (l .word) 0) (ruleRow l) [];
-      kinds = t .kinds ++ cond (eqb (l .word) 1) (kindRow l) [];
-      rights = t .rights ++ cond (eqb (l .word) 2) (rightRow l) [];
+      rules = cond (eqb (l .word) ruleWord) (t .rules ++ ruleRow l) (t .rules);
+      kinds = cond (eqb (l .word) kindWord) (t .kinds ++ kindRow l) (t .kinds);
+      rights = cond (eqb (l .word) rightWord) (t .rights ++ rightRow l) (t .rights);
     }
 
 -- the call that an event makes, by the words' order; a line of the policy makes none, and is not asked for one
@@ -84,9 +85,9 @@ isFull most width table = leb most (length table / width)
 unfoldable pub badWays : Machine → Line → List Bool
 badWays m l =
     isUnknown l
-    ∷ (eqb (l .word) 0 && isFull mostRules ruleWidth (m .tables .rules))
-    ∷ (eqb (l .word) 1 && isFull mostKinds kindWidth (m .tables .kinds))
-    ∷ (eqb (l .word) 2 && isFull mostRights rightWidth (m .tables .rights))
+    ∷ (eqb (l .word) ruleWord && isFull mostRules ruleWidth (m .tables .rules))
+    ∷ (eqb (l .word) kindWord && isFull mostKinds kindWidth (m .tables .kinds))
+    ∷ (eqb (l .word) rightWord && isFull mostRights rightWidth (m .tables .rights))
     ∷ (isPolicy l && m .eventCame)
     ∷ []
 

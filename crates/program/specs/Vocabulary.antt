@@ -41,6 +41,15 @@ abbrev pub words : ℕ
 words = 11
 
 -- the first three state the policy; "then events"
+abbrev pub ruleWord : ℕ
+ruleWord = 0
+
+abbrev pub kindWord : ℕ
+kindWord = 1
+
+abbrev pub rightWord : ℕ
+rightWord = 2
+
 abbrev pub policyWords : ℕ
 policyWords = 3
 

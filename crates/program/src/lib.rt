@@ -1,7 +1,7 @@
 // The value that contracts name. What it means stands in specs/.
 
-// A record of the program, read: the word by its place in the vocabulary, how many numbers follow it, and these, those past the
-// count being 0. A record that no word of the vocabulary opens as it should has the place past the last word.
+// A record of the program, read: its word by the word's number, how many numbers follow, and these, those past the count being 0.
+// A record that is none of the vocabulary's has the number past the last word, and zeros.
 pub struct Line {
     pub word: u16,
     pub count: u16,

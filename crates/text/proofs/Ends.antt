@@ -12,7 +12,7 @@ use borrow.Author.Tests.{eq-eqb, ne-eqb}
 use lib.ListN.{length, getD, take, drop, length-drop, List·getD-eq-default}
 use lib.Seq.{drop-cons, drop-drop, drop-length, getD-drop}
 use Rattle.program.specs.Text.{before, records, fields, unquoted}
-use Rattle.text.specs.Places.{part, atCrlf, atComma, bytesBefore, endFrom, recordEnd, fieldEnd, fieldsAfter, saidBehind}
+use Rattle.text.specs.Places.{part, Within, atCrlf, atComma, bytesBefore, endFrom, recordEnd, fieldEnd, fieldsAfter, saidBehind}
 
 -- what is left begins with the byte at the place
 pub left-first : (s : List ℕ) (i : ℕ) → getD (drop i s) 0 0 ≡ getD s i 0
@@ -43,11 +43,11 @@ module _ (test : List ℕ → Bool) where
       go ih true = omega arith
       go ih false = omega arith
 
-  pub end-within : (s : List ℕ) (i : ℕ) → i ≤ length s → (i ≤ endFrom test s i) × (endFrom test s i ≤ length s)
-  end-within s i h = let l = before-le (drop i s) in (omega arith, omega (arith, l, length-drop i s))
+  pub end-within : (s : List ℕ) (i end : ℕ) → end ≡ endFrom test s i → i ≤ length s → Within s i end
+  end-within s i end e h = let l = before-le (drop i s) in record { ordered = omega arith; inside = omega (arith, l, length-drop i s) }
 
   pub end-past : (s : List ℕ) (i : ℕ) → i ≤ length s → length s ≤ i → endFrom test s i ≡ i
-  end-past s i h l = let w = end-within s i h in omega (arith, w .0, w .1)
+  end-past s i h l = let w = end-within s i (endFrom test s i) refl h in omega arith
 
 -- ── a CRLF, by its two bytes ──
 
@@ -131,6 +131,10 @@ said-end s i h l =
     let e : i ≡ length s = omega arith in
     ap (λ (k : ℕ). map unquoted (fieldsAfter (drop k s))) e ∙ ap (λ (k : List ℕ). map unquoted (fieldsAfter k)) (drop-length s)
 
-pub field-within : (s : List ℕ) (i end : ℕ) → end ≡ fieldEnd s i → i ≤ length s → (i ≤ end) × (end ≤ length s)
+pub record-within : (s : List ℕ) (i end : ℕ) → end ≡ recordEnd s i → i ≤ length s → Within s i end
+unfolding recordEnd
+record-within s i end e h = end-within atCrlf s i end e h
+
+pub field-within : (s : List ℕ) (i end : ℕ) → end ≡ fieldEnd s i → i ≤ length s → Within s i end
 unfolding fieldEnd
-field-within s i end e h = let w = end-within atComma s i h in (omega (arith, e, w .0), omega (arith, e, w .1))
+field-within s i end e h = end-within atComma s i end e h

@@ -1,9 +1,9 @@
 -- A text by its places, as code reads it: where a record and a field end, the bytes between two places, and a field's number.
-use Prim.Native.Nat.{ℕ, suc, _+_, _-_}
+use Prim.Native.Nat.{ℕ, suc, _+_, _-_, _≤_}
 use mathlib.Core.Bool.{Bool, _&&_, cond}
 use mathlib.Core.List.{List, [], _∷_, map}
 use lib.Dec.{eqb, leb}
-use lib.ListN.{getD, take, drop}
+use lib.ListN.{length, getD, take, drop}
 use Rattle.model.specs.Lists.{all}
 use Rattle.program.specs.Text.{comma, cr, lf, fields, unquoted, isDigit, valueBehind, valueOf, isNumber}
 use Rattle.text.specs.declared.Number.{Number}
@@ -12,6 +12,11 @@ use Rattle.text.specs.declared.Number.the-variants.{Value, Not}
 -- the bytes from a place up to another
 abbrev pub part : List ℕ → ℕ → ℕ → List ℕ
 part text from to = take (to - from) (drop from text)
+
+-- both places stand in the text, in their order
+pub record Within (text : List ℕ) (from to : ℕ) : Type 0 where
+  pub ordered : from ≤ to
+  pub inside : to ≤ length text
 
 -- what is left of a text begins with a CRLF
 unfoldable pub atCrlf : List ℕ → Bool

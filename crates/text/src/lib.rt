@@ -7,7 +7,7 @@ ghost use lib.ListN.{length, drop};
 ghost use Rattle.program.specs.Text.{isDigit, unquoted};
 ghost use Rattle.program.specs.Vocabulary.{words, same, wordOf, numbered};
 ghost use Rattle.program.specs.Lines.{unknown as unknownLine, lineFrom, lineOf};
-ghost use Rattle.text.specs.Places.{part, atCrlf, recordEnd, fieldEnd, saidBehind, numberOf, writtenBehind};
+ghost use Rattle.text.specs.Places.{part, Within, atCrlf, recordEnd, fieldEnd, saidBehind, numberOf, writtenBehind};
 use program::Line;
 
 const COMMA: u8 = 44;
@@ -81,7 +81,7 @@ pub fn field_end(bytes: &[u8], from: usize) -> usize
 
 // The field between two places, without the quotes around it if it has them: a part of the text.
 pub fn field(text: &[u8], from: usize, to: usize) -> &[u8]
-    requires { ⌜ (from ≤ to) × (to ≤ length (now text)) ⌝ }
+    requires { ⌜ Within (now text) from to ⌝ }
     ensures { λ r. ⌜ now r ≡ unquoted (part (now (text .entry)) from to) ⌝ }
 {
     if to - from < 2 {
@@ -260,7 +260,7 @@ pub fn line_of(bytes: &[u8]) -> Line
 
 // What the record between two places of a text says.
 pub fn line_at(text: &[u8], from: usize, to: usize) -> Line
-    requires { ⌜ (from ≤ to) × (to ≤ length (now text)) ⌝ }
+    requires { ⌜ Within (now text) from to ⌝ }
     ensures { λ r. ⌜ r ≡ lineOf (part (now (text .entry)) from to) ⌝ }
 {
     line_of(&text[from..to])

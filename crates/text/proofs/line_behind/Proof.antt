@@ -64,10 +64,10 @@ add-count : tie.Need-add-count Inv-loop μ-loop
 add-count c = search needs
 
 loop-less : tie.Need-loop-less Inv-loop μ-loop
-loop-less c = let w = field-within _ _ _ (c .before .before .before .before .before .field-end .ensures) (search needs) in omega (arith, w .0, w .1, c .before .before .before .before .before .before .before .loop-test .taken)
+loop-less c = let w = field-within _ _ _ (c .before .before .before .before .before .field-end .ensures) (search needs) in omega (arith, c .before .before .before .before .before .before .before .loop-test .taken)
 
 loop-again : tie.Need-loop-again Inv-loop μ-loop
-loop-again c = (field-within _ _ _ (c .before .before .before .before .before .field-end .ensures) (search needs) .1, search needs, one-more _ _ _ _ _ (c .before .before .before .before .before .before .before .before .loop .inv .2) (search needs) _ (c .before .before .before .before .before .field-end .ensures) _ (c .before .before .before .before .field .ensures) _ (c .before .before .before .before .before .before .if1 .left) (sym (c .before .before .before .number-of .ensures) ∙ c .before .value .given .1))
+loop-again c = (field-within _ _ _ (c .before .before .before .before .before .field-end .ensures) (search needs) .inside, search needs, one-more _ _ _ _ _ (c .before .before .before .before .before .before .before .before .loop .inv .2) (search needs) _ (c .before .before .before .before .before .field-end .ensures) _ (c .before .before .before .before .field .ensures) _ (c .before .before .before .before .before .before .if1 .left) (sym (c .before .before .before .number-of .ensures) ∙ c .before .value .given .1))
 
 count-fits-requires : tie.Need-count-fits-requires Inv-loop μ-loop
 count-fits-requires c κs = search needs

@@ -18,7 +18,7 @@ unknown-requires : tie.Need-unknown-requires
 unknown-requires c κs = search needs
 
 line-behind-requires : tie.Need-line-behind-requires
-line-behind-requires c κs = (search needs, field-within _ 0 _ (c .before .before .before .field-end .ensures) (search needs) .1)
+line-behind-requires c κs = (search needs, field-within _ 0 _ (c .before .before .before .field-end .ensures) (search needs) .inside)
 
 returns : tie.Need-returns
 returns c = c .unknown .ensures ∙ no-word _ _ (c .before .if1 .taken) ∙ line-is _ _ (c .before .before .before .before .field-end .ensures) _ (c .before .before .before .field .ensures) _ (c .before .before .word-of .ensures)
