@@ -1,0 +1,112 @@
+-- One row more of a table, number by number, and a line of the policy as a row.
+use Prim.Native.Nat.{ℕ, zero, suc, _+_, _-_, _*_, _≤_, _<_}
+use mathlib.Core.Path.{_≡_, refl, sym, ap, _∙_}
+use mathlib.Core.Bool.{true, false, cond, true≢false}
+use mathlib.Core.Logic.{_≢_, _⊎_, inl, inr}
+use mathlib.Core.List.{List, [], _∷_, _++_, append-nil, append-assoc}
+use native.Mathlib.Omega.{arith}
+use native.Mathlib.Numerals.{add-one}
+use lib.Dec.{eqb, ltb}
+use lib.ListN.{length, getD, take, drop, set}
+use lib.Seq.{take-suc, take-suc-set, drop-cons, drop-length}
+use borrow.Author.Tests.{ne-eqb, ltb-true}
+use Rattle.model.specs.Layout.{number}
+use Rattle.model.proofs.Tests.{lt-or-ge}
+use Rattle.program.specs.Program.{ruleRow, kindRow, rightRow, withRow}
+use Rattle.program.specs.declared.Line.{Line}
+use Rattle.load.specs.Rows.{tablesOf, hasRoom}
+use Rattle.load.specs.declared.Counts.{Counts}
+
+-- ── number by number ──
+
+pub one-more : (table before row : List ℕ) (at i : ℕ) → at + i < length table → i < length row → take (at + i) table ≡ before ++ take i row → take (at + (i + 1)) (set table (at + i) (getD row i 0)) ≡ before ++ take (i + 1) row
+one-more table before row at i h k e =
+    let next : at + (i + 1) ≡ suc (at + i) = omega arith in
+    ap (λ (n : ℕ). take n (set table (at + i) (getD row i 0))) next
+    ∙ take-suc-set table (at + i) (getD row i 0) h
+    ∙ ap (λ (l : List ℕ). l ++ (getD row i 0 ∷ [])) e
+    ∙ append-assoc before (take i row) (getD row i 0 ∷ [])
+    ∙ ap (λ (l : List ℕ). before ++ l) (sym (ap (λ (n : ℕ). take n row) (add-one i) ∙ take-suc row i 0 k))
+
+pub none-yet : (table row : List ℕ) (at : ℕ) → take (at + 0) table ≡ take at table ++ take 0 row
+none-yet table row at = let e : at + 0 ≡ at = omega arith in ap (λ (n : ℕ). take n table) e ∙ sym (append-nil (take at table))
+
+-- ── the numbers of a line, one by one ──
+
+abbrev from : List ℕ → ℕ → ℕ → List ℕ
+from l k zero = []
+from l k (suc n) = getD l k 0 ∷ from l (suc k) n
+
+from-place : (l : List ℕ) (k n : ℕ) → k + n ≡ length l → drop k l ≡ from l k n
+from-place l k zero e = let z : k ≡ length l = omega arith in ap (λ (i : ℕ). drop i l) z ∙ drop-length l
+from-place l k (suc n) e = drop-cons l k 0 (omega arith) ∙ ap (λ (r : List ℕ). getD l k 0 ∷ r) (from-place l (suc k) n (omega arith))
+
+module _ (l : Line) (ten : length (l .numbers) ≡ 10) where
+  pub rule-row : (count : ℕ) → count ≡ l .count - 2 → number (l .numbers) 0 ∷ count ∷ number (l .numbers) 1 ∷ from (l .numbers) 2 8 ≡ ruleRow l
+  rule-row count e = λ i. number (l .numbers) 0 ∷ e i ∷ number (l .numbers) 1 ∷ sym (from-place (l .numbers) 2 8 (omega (arith, ten))) i
+
+  pub kind-row : (count : ℕ) → count ≡ l .count - 2 → number (l .numbers) 0 ∷ number (l .numbers) 1 ∷ count ∷ from (l .numbers) 2 4 ≡ kindRow l
+  kind-row count e = λ i. number (l .numbers) 0 ∷ number (l .numbers) 1 ∷ e i ∷ take 4 (sym (from-place (l .numbers) 2 8 (omega (arith, ten))) i)
+
+  pub right-row : from (l .numbers) 0 2 ≡ rightRow l
+  right-row = ap (take 2) (sym (from-place (l .numbers) 0 10 (omega (arith, ten))))
+
+-- ── one row more of one table ──
+
+module _ (rules kinds rights rules′ kinds′ rights′ : List ℕ) (c : Counts) (l : Line) where
+  pub with-rule : l .word ≡ 0 → kinds′ ≡ kinds → rights′ ≡ rights → take (c .rules * 11 + 11) rules′ ≡ take (c .rules * 11) rules ++ ruleRow l → tablesOf rules′ kinds′ rights′ (record { rules = c .rules + 1; kinds = c .kinds; rights = c .rights }) ≡ withRow (tablesOf rules kinds rights c) l
+  unfolding withRow
+  with-rule w k r e =
+      let more : (c .rules + 1) * 11 ≡ c .rules * 11 + 11 = omega arith in
+      (λ i. record { rules = (ap (λ (n : ℕ). take n rules′) more ∙ e) i; kinds = take (c .kinds * 7) (k i); rights = take (c .rights * 2) (r i) })
+      ∙ ap (λ (n : ℕ). record { rules = cond (eqb n 0) (take (c .rules * 11) rules ++ ruleRow l) (take (c .rules * 11) rules); kinds = cond (eqb n 1) (take (c .kinds * 7) kinds ++ kindRow l) (take (c .kinds * 7) kinds); rights = cond (eqb n 2) (take (c .rights * 2) rights ++ rightRow l) (take (c .rights * 2) rights) }) (sym w)
+
+  pub with-kind : l .word ≡ 1 → rules′ ≡ rules → rights′ ≡ rights → take (c .kinds * 7 + 7) kinds′ ≡ take (c .kinds * 7) kinds ++ kindRow l → tablesOf rules′ kinds′ rights′ (record { rules = c .rules; kinds = c .kinds + 1; rights = c .rights }) ≡ withRow (tablesOf rules kinds rights c) l
+  unfolding withRow
+  with-kind w k r e =
+      let more : (c .kinds + 1) * 7 ≡ c .kinds * 7 + 7 = omega arith in
+      (λ i. record { rules = take (c .rules * 11) (k i); kinds = (ap (λ (n : ℕ). take n kinds′) more ∙ e) i; rights = take (c .rights * 2) (r i) })
+      ∙ ap (λ (n : ℕ). record { rules = cond (eqb n 0) (take (c .rules * 11) rules ++ ruleRow l) (take (c .rules * 11) rules); kinds = cond (eqb n 1) (take (c .kinds * 7) kinds ++ kindRow l) (take (c .kinds * 7) kinds); rights = cond (eqb n 2) (take (c .rights * 2) rights ++ rightRow l) (take (c .rights * 2) rights) }) (sym w)
+
+  pub with-right : l .word ≡ 2 → rules′ ≡ rules → kinds′ ≡ kinds → take (c .rights * 2 + 2) rights′ ≡ take (c .rights * 2) rights ++ rightRow l → tablesOf rules′ kinds′ rights′ (record { rules = c .rules; kinds = c .kinds; rights = c .rights + 1 }) ≡ withRow (tablesOf rules kinds rights c) l
+  unfolding withRow
+  with-right w k r e =
+      let more : (c .rights + 1) * 2 ≡ c .rights * 2 + 2 = omega arith in
+      (λ i. record { rules = take (c .rules * 11) (k i); kinds = take (c .kinds * 7) (r i); rights = (ap (λ (n : ℕ). take n rights′) more ∙ e) i })
+      ∙ ap (λ (n : ℕ). record { rules = cond (eqb n 0) (take (c .rules * 11) rules ++ ruleRow l) (take (c .rules * 11) rules); kinds = cond (eqb n 1) (take (c .kinds * 7) kinds ++ kindRow l) (take (c .kinds * 7) kinds); rights = cond (eqb n 2) (take (c .rights * 2) rights ++ rightRow l) (take (c .rights * 2) rights) }) (sym w)
+
+-- ── room ──
+
+module _ (c : Counts) (l : Line) where
+  pub room-rule : l .word ≡ 0 → ltb (c .rules) 512 ≡ hasRoom c l
+  unfolding hasRoom
+  room-rule e = ap (λ (n : ℕ). cond (eqb n 0) (ltb (c .rules) 512) (cond (eqb n 1) (ltb (c .kinds) 128) (cond (eqb n 2) (ltb (c .rights) 2048) false))) (sym e)
+
+  pub room-kind : l .word ≡ 1 → ltb (c .kinds) 128 ≡ hasRoom c l
+  unfolding hasRoom
+  room-kind e = ap (λ (n : ℕ). cond (eqb n 0) (ltb (c .rules) 512) (cond (eqb n 1) (ltb (c .kinds) 128) (cond (eqb n 2) (ltb (c .rights) 2048) false))) (sym e)
+
+  pub room-right : l .word ≡ 2 → ltb (c .rights) 2048 ≡ hasRoom c l
+  unfolding hasRoom
+  room-right e = ap (λ (n : ℕ). cond (eqb n 0) (ltb (c .rules) 512) (cond (eqb n 1) (ltb (c .kinds) 128) (cond (eqb n 2) (ltb (c .rights) 2048) false))) (sym e)
+
+  pub room-none : l .word ≢ 0 → l .word ≢ 1 → l .word ≢ 2 → false ≡ hasRoom c l
+  unfolding hasRoom
+  room-none a b d = λ i. cond (sym (ne-eqb (l .word) 0 a) i) (ltb (c .rules) 512) (cond (sym (ne-eqb (l .word) 1 b) i) (ltb (c .kinds) 128) (cond (sym (ne-eqb (l .word) 2 d) i) (ltb (c .rights) 2048) false))
+
+  -- a line with room whose word is neither of the first two is a right
+  pub is-right : hasRoom c l ≡ true → l .word ≢ 0 → l .word ≢ 1 → l .word ≡ 2
+  is-right h a b = go (lt-or-ge (l .word) 3)
+    where
+      go : (l .word < 3) ⊎ (3 ≤ l .word) → l .word ≡ 2
+      go (inl k) = omega (arith, k, a, b)
+      go (inr k) = absurd (true≢false (sym h ∙ sym (room-none a b (λ e. omega arith))))
+
+  pub rules-below : hasRoom c l ≡ true → l .word ≡ 0 → c .rules < 512
+  rules-below h e = ltb-true (c .rules) 512 (room-rule e ∙ h)
+
+  pub kinds-below : hasRoom c l ≡ true → l .word ≡ 1 → c .kinds < 128
+  kinds-below h e = ltb-true (c .kinds) 128 (room-kind e ∙ h)
+
+  pub rights-below : hasRoom c l ≡ true → l .word ≡ 2 → c .rights < 2048
+  rights-below h e = ltb-true (c .rights) 2048 (room-right e ∙ h)

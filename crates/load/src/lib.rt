@@ -1,0 +1,126 @@
+// The policy of the program's input: its records as rows of three tables, up to the first record that is none of the policy or has no
+// room.
+ghost use mathlib.Core.Path.{_≡_};
+ghost use mathlib.Core.List.{_++_};
+ghost use Prim.Native.Nat.{_+_, _*_, _<_, _≤_};
+ghost use lib.ListN.{length, take};
+ghost use mathlib.Core.Bool.{true};
+ghost use Rattle.program.specs.Program.{withRow};
+ghost use Rattle.load.specs.Rows.{tablesOf, hasRoom};
+use program::Line;
+
+const RULE: u16 = 0;
+
+const KIND: u16 = 1;
+
+const RIGHT: u16 = 2;
+
+const RULE_WIDTH: usize = 11;
+
+const KIND_WIDTH: usize = 7;
+
+const RIGHT_WIDTH: usize = 2;
+
+// How many rows each table has so far.
+pub struct Counts {
+    pub rules: usize,
+    pub kinds: usize,
+    pub rights: usize,
+}
+
+// The first `width` numbers of the row behind the first `at` of the table.
+fn append(table: &mut [u16], at: usize, row: [u16; 11], width: usize)
+    requires { ⌜ (at + width ≤ length (now table)) × (width ≤ 11) ⌝ }
+    ensures { λ r. ⌜ take (at + width) (now (table .exit)) ≡ take at (now (table .entry)) ++ take width row ⌝ }
+{
+    let mut i: usize = 0;
+    while i < width {
+        table[at + i] = row[i];
+        i += 1;
+    }
+}
+
+// There is room for the line's row; false also for a line that is none of the policy.
+fn has_room(counts: Counts, line: Line) -> bool
+    ensures { λ r. ⌜ r ≡ hasRoom counts line ⌝ }
+{
+    let word = line.word;
+    if word == RULE {
+        return counts.rules < 512;
+    }
+    if word == KIND {
+        return counts.kinds < 128;
+    }
+    if word == RIGHT {
+        return counts.rights < 2048;
+    }
+    false
+}
+
+// One row more. The record has target and m, or appointer role and mode; n and s are how many numbers follow these.
+fn take_row(
+    rules: &mut [u16],
+    kinds: &mut [u16],
+    rights: &mut [u16],
+    counts: Counts,
+    line: Line,
+) -> Counts
+    requires { ⌜ (length (now rules) ≡ 5632) × (length (now kinds) ≡ 896) × (length (now rights) ≡ 4096) × (hasRoom counts line ≡ true) × (2 ≤ line .count) ⌝ }
+    ensures { λ r. ⌜ tablesOf (now (rules .exit)) (now (kinds .exit)) (now (rights .exit)) r ≡ withRow (tablesOf (now (rules .entry)) (now (kinds .entry)) (now (rights .entry)) counts) line ⌝ }
+{
+    let word = line.word;
+    let n = line.numbers;
+    let count = line.count - 2;
+    let a = counts.rules;
+    let b = counts.kinds;
+    let c = counts.rights;
+    if word == RULE {
+        append(
+            rules,
+            a * RULE_WIDTH,
+            [
+                n[0],
+                count,
+                n[1],
+                n[2],
+                n[3],
+                n[4],
+                n[5],
+                n[6],
+                n[7],
+                n[8],
+                n[9],
+            ],
+            RULE_WIDTH,
+        );
+        return Counts {
+            rules: a + 1,
+            kinds: b,
+            rights: c,
+        };
+    }
+    if word == KIND {
+        append(
+            kinds,
+            b * KIND_WIDTH,
+            [n[0], n[1], count, n[2], n[3], n[4], n[5], 0, 0, 0, 0],
+            KIND_WIDTH,
+        );
+        return Counts {
+            rules: a,
+            kinds: b + 1,
+            rights: c,
+        };
+    }
+    append(
+        rights,
+        c * RIGHT_WIDTH,
+        [n[0], n[1], 0, 0, 0, 0, 0, 0, 0, 0, 0],
+        RIGHT_WIDTH,
+    );
+    Counts {
+        rules: a,
+        kinds: b,
+        rights: c + 1,
+    }
+}
