@@ -42,3 +42,46 @@ pub fn next_at(text: &[u8], at: usize) -> usize
     }
     end + 2
 }
+
+pub fn new<'a>(text: &'a [u8], at: usize) -> Reader<'a>
+    ensures { λ r. ⌜ (r .text ≡ text .entry) × (r .at ≡ at) ⌝ }
+{
+    Reader { text, at }
+}
+
+// The reader at the next record.
+pub fn moved<'a>(r: Reader<'a>) -> Reader<'a>
+    ensures { λ m. ⌜ (m .text ≡ r .entry .text) × (m .at ≡ nextAt (now (r .entry .text)) (r .entry .at)) ⌝ }
+{
+    Reader {
+        text: r.text,
+        at: next_at(r.text, r.at),
+    }
+}
+
+// The part lives as long as the text that the reader holds.
+pub fn record<'a>(r: Reader<'a>) -> &'a [u8]
+    ensures { λ p. ⌜ now p ≡ recordAt (now (r .entry .text)) (r .entry .at) ⌝ }
+{
+    record_at(r.text, r.at)
+}
+
+pub fn first_field<'a>(r: Reader<'a>) -> &'a [u8]
+    ensures { λ p. ⌜ now p ≡ firstFieldAt (now (r .entry .text)) (r .entry .at) ⌝ }
+{
+    first_field_at(r.text, r.at)
+}
+
+// What the record at a place says.
+pub fn line_from(text: &[u8], at: usize) -> Line
+    ensures { λ r. ⌜ r ≡ lineAt (now (text .entry)) at ⌝ }
+{
+    text::line_of(record(new(text, at)))
+}
+
+// Where the record behind it begins.
+pub fn next_from(text: &[u8], at: usize) -> usize
+    ensures { λ r. ⌜ r ≡ nextAt (now (text .entry)) at ⌝ }
+{
+    moved(new(text, at)).at
+}
