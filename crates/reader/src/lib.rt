@@ -36,11 +36,11 @@ pub fn next_at(text: &[u8], at: usize) -> usize
     if text.len() < at {
         return text.len();
     }
-    let end = text::record_end(text, at);
-    if text.len() - end < 2 {
+    let crlf = text::record_end(text, at);
+    if text.len() - crlf < 2 {
         return text.len();
     }
-    end + 2
+    crlf + 2
 }
 
 pub fn new<'a>(text: &'a [u8], at: usize) -> Reader<'a>
