@@ -1,0 +1,4 @@
+pub mod Decimals
+pub mod Sizes
+pub mod Joined
+pub mod Records
