@@ -10,7 +10,7 @@ use Rattle.program.specs.Text.{records, fields, unquoted, said}
 use Rattle.program.specs.Lines.{lineOf}
 use Rattle.program.specs.declared.Line.{Line}
 use Rattle.text.specs.Places.{part, atCrlf, bytesBefore, recordEnd, fieldEnd, fieldsAfter}
-use Rattle.text.proofs.Ends.{end-within, records-next, fields-next}
+use Rattle.text.proofs.Ends.{record-within, records-next, fields-next}
 use Rattle.reader.specs.Reading.{recordAt, firstFieldAt, lineAt, nextAt}
 
 -- past the end, nothing is left
@@ -21,10 +21,6 @@ drop-min text n =
     (λ h e. drop-of-length-le text h ∙ sym (ap (λ (k : ℕ). drop k text) e ∙ drop-length text))
 
 module _ (text : List ℕ) (at : ℕ) where
-  pub record-within : (end : ℕ) → end ≡ recordEnd text at → at ≤ length text → (at ≤ end) × (end ≤ length text)
-  unfolding recordEnd
-  record-within end e h = let w = end-within atCrlf text at h in (omega (arith, e, w .0), omega (arith, e, w .1))
-
   -- a record of no bytes, where none begins
   pub record-past : length text ≤ at → [] ≡ recordAt text at
   unfolding recordAt

@@ -1,5 +1,6 @@
 use Rattle.reader.specs.Reading.{nextAt}
-use Rattle.reader.proofs.Walking.{record-within, next-past}
+use Rattle.text.proofs.Ends.{record-within}
+use Rattle.reader.proofs.Walking.{next-past}
 use borrow.Author.Needs.{needs}
 use native.Mathlib.Omega.{arith}
 use Rattle.reader.proofs.next_at.Statement.{statement}
@@ -12,7 +13,7 @@ record-end-requires : tie.Need-record-end-requires
 record-end-requires c κs = search needs
 
 sub-if2 : tie.Need-sub-if2
-sub-if2 c = record-within _ _ _ (c .record-end .ensures) (c .before .if1 .left) .1
+sub-if2 c = record-within _ _ _ (c .record-end .ensures) (c .before .if1 .left) .inside
 
 returns-2 : tie.Need-returns-2
 unfolding nextAt

@@ -1,7 +1,8 @@
 use mathlib.Core.Path.{ap}
 use Rattle.text.specs.Places.{part}
 use Rattle.reader.specs.Reading.{recordAt}
-use Rattle.reader.proofs.Walking.{record-within, record-past}
+use Rattle.text.proofs.Ends.{record-within}
+use Rattle.reader.proofs.Walking.{record-past}
 use borrow.Author.Needs.{needs}
 use Rattle.reader.proofs.record_at.Statement.{statement}
 use Rattle.reader.proofs.record_at.Tie as tie
@@ -16,13 +17,13 @@ record-end-requires : tie.Need-record-end-requires
 record-end-requires c κs = search needs
 
 sub-result : tie.Need-sub-result
-sub-result c = record-within _ _ _ (c .record-end .ensures) (c .before .if1 .left) .0
+sub-result c = record-within _ _ _ (c .record-end .ensures) (c .before .if1 .left) .ordered
 
 part-result-start : tie.Need-part-result-start
-part-result-start c = record-within _ _ _ (c .record-end .ensures) (c .before .if1 .left) .0
+part-result-start c = record-within _ _ _ (c .record-end .ensures) (c .before .if1 .left) .ordered
 
 part-result-end : tie.Need-part-result-end
-part-result-end c = record-within _ _ _ (c .record-end .ensures) (c .before .if1 .left) .1
+part-result-end c = record-within _ _ _ (c .record-end .ensures) (c .before .if1 .left) .inside
 
 returns-2 : tie.Need-returns-2
 unfolding recordAt
