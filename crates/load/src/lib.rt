@@ -5,8 +5,8 @@ ghost use mathlib.Core.List.{_++_};
 ghost use Prim.Native.Nat.{_+_, _*_, _<_, _≤_};
 ghost use lib.ListN.{length, take};
 ghost use mathlib.Core.Bool.{true};
-ghost use Rattle.program.specs.Program.{withRow};
-ghost use Rattle.load.specs.Rows.{tablesOf, hasRoom};
+ghost use Rattle.program.specs.Program.{withRow, start, steps};
+ghost use Rattle.load.specs.Rows.{tablesOf, hasRoom, linesFrom, Loads};
 use program::Line;
 
 const RULE: u16 = 0;
@@ -122,5 +122,50 @@ fn take_row(
         rules: a,
         kinds: b,
         rights: c + 1,
+    }
+}
+
+// Where the policy ends, and what it has come to.
+pub struct Loaded {
+    pub at: usize,
+    pub taken: usize,
+    pub rules: usize,
+    pub kinds: usize,
+    pub rights: usize,
+}
+
+// Loads the records of the policy, up to the first that is none or has no room: what the program writes is what it writes from there on.
+pub fn load(text: &[u8], rules: &mut [u16], kinds: &mut [u16], rights: &mut [u16]) -> Loaded
+    requires { ⌜ (length (now rules) ≡ 5632) × (length (now kinds) ≡ 896) × (length (now rights) ≡ 4096) ⌝ }
+    ensures { λ r. ⌜ Loads (now (text .entry)) (now (rules .exit)) (now (kinds .exit)) (now (rights .exit)) r ⌝ }
+{
+    let mut at: usize = 0;
+    let mut taken: usize = 0;
+    let mut counts = Counts {
+        rules: 0,
+        kinds: 0,
+        rights: 0,
+    };
+    while at < text.len() {
+        let line = reader::line_from(text, at);
+        if !has_room(counts, line) {
+            return Loaded {
+                at,
+                taken,
+                rules: counts.rules,
+                kinds: counts.kinds,
+                rights: counts.rights,
+            };
+        }
+        counts = take_row(rules, kinds, rights, counts, line);
+        taken += 1;
+        at = reader::next_from(text, at);
+    }
+    Loaded {
+        at,
+        taken,
+        rules: counts.rules,
+        kinds: counts.kinds,
+        rights: counts.rights,
     }
 }

@@ -1,17 +1,18 @@
+use Prim.Native.Nat.{ℕ, _*_}
+use mathlib.Core.Path.{_≡_, refl, ap, _∙_}
+use mathlib.Core.List.{List, _++_}
+use native.Mathlib.Omega.{arith}
+use lib.ListN.{length, take}
+use Rattle.load.proofs.Appending.{rule-row, kind-row, right-row, with-rule, with-kind, with-right, is-right, rules-below, kinds-below, rights-below}
 use borrow.Author.Needs.{needs}
 use Rattle.load.proofs.take_row.Statement.{statement}
 use Rattle.load.proofs.take_row.Tie as tie
-use Rattle.load.proofs.take_row.Reads as reads
-use Rattle.load.proofs.take_row.Lts as lts
-use Rattle.load.proofs.append.Reads as append-reads
 
--- src/lib.rt:73:17
 sub-count : tie.Need-sub-count
-sub-count c = search needs
+sub-count c = omega (arith, c .before .before .before .before .before .pre .4)
 
--- src/lib.rt:80:13
 mul-append : tie.Need-mul-append
-mul-append c = ?
+mul-append c = omega (arith, rules-below (c .before .before .before .before .before .before .before .args .counts) (c .before .before .before .before .before .before .before .args .line) (c .before .before .before .before .before .before .before .pre .3) (c .before .if1 .taken))
 
 -- src/lib.rt:82:17
 array-read-t19 : tie.Need-array-read-t19
@@ -53,25 +54,21 @@ array-read-t43 c = search needs
 array-read-t46 : tie.Need-array-read-t46
 array-read-t46 c = search needs
 
--- src/lib.rt:78:9
 append-requires : tie.Need-append-requires
-append-requires c κs = ?
+append-requires c κs = (omega (arith, rules-below (c .before .before .before .before .before .before .before .args .counts) (c .before .before .before .before .before .before .before .args .line) (c .before .before .before .before .before .before .before .pre .3) (c .before .if1 .taken), c .before .before .before .before .before .before .before .pre .0), omega arith)
 
--- src/lib.rt:97:20
 add-t16 : tie.Need-add-t16
-add-t16 c = ?
+add-t16 c = omega (arith, rules-below (c .before .before .before .before .before .before .before .before .before .before .args .counts) (c .before .before .before .before .before .before .before .before .before .before .args .line) (c .before .before .before .before .before .before .before .before .before .before .pre .3) (c .before .before .before .before .if1 .taken))
 
 -- src/lib.rt:96:9
 same-length : tie.Need-same-length
 same-length c = search needs
 
--- src/lib.rt:96:9
 returns : tie.Need-returns
-returns c = ?
+returns c = with-rule (c .before .before .before .before .before .before .before .before .before .before .args .rules .now) (c .before .before .before .before .before .before .before .before .before .before .args .kinds .now) (c .before .before .before .before .before .before .before .before .before .before .args .rights .now) _ _ _ (c .before .before .before .before .before .before .before .before .before .before .args .counts) (c .before .before .before .before .before .before .before .before .before .before .args .line) (c .before .before .before .before .if1 .taken) refl refl (c .before .before .append .ensures ∙ ap (λ (l : List ℕ). take (c .before .before .before .before .before .before .before .before .before .before .args .counts .rules * 11) (c .before .before .before .before .before .before .before .before .before .before .args .rules .now) ++ l) (rule-row (c .before .before .before .before .before .before .before .before .before .before .args .line) (search needs) _ refl))
 
--- src/lib.rt:105:13
 mul-append-2 : tie.Need-mul-append-2
-mul-append-2 c = ?
+mul-append-2 c = omega (arith, kinds-below (c .before .before .before .before .before .before .before .before .args .counts) (c .before .before .before .before .before .before .before .before .args .line) (c .before .before .before .before .before .before .before .before .pre .3) (c .before .if2 .taken))
 
 -- src/lib.rt:106:14
 array-read-t54 : tie.Need-array-read-t54
@@ -97,25 +94,21 @@ array-read-t66 c = search needs
 array-read-t69 : tie.Need-array-read-t69
 array-read-t69 c = search needs
 
--- src/lib.rt:103:9
 append-requires-2 : tie.Need-append-requires-2
-append-requires-2 c κs = ?
+append-requires-2 c κs = (omega (arith, kinds-below (c .before .before .before .before .before .before .before .before .args .counts) (c .before .before .before .before .before .before .before .before .args .line) (c .before .before .before .before .before .before .before .before .pre .3) (c .before .if2 .taken), c .before .before .before .before .before .before .before .before .pre .1), omega arith)
 
--- src/lib.rt:111:20
 add-t51 : tie.Need-add-t51
-add-t51 c = ?
+add-t51 c = omega (arith, kinds-below (c .before .before .before .before .before .before .before .before .before .before .before .args .counts) (c .before .before .before .before .before .before .before .before .before .before .before .args .line) (c .before .before .before .before .before .before .before .before .before .before .before .pre .3) (c .before .before .before .before .if2 .taken))
 
 -- src/lib.rt:109:9
 same-length-2 : tie.Need-same-length-2
 same-length-2 c = search needs
 
--- src/lib.rt:109:9
 returns-2 : tie.Need-returns-2
-returns-2 c = ?
+returns-2 c = with-kind (c .before .before .before .before .before .before .before .before .before .before .before .args .rules .now) (c .before .before .before .before .before .before .before .before .before .before .before .args .kinds .now) (c .before .before .before .before .before .before .before .before .before .before .before .args .rights .now) _ _ _ (c .before .before .before .before .before .before .before .before .before .before .before .args .counts) (c .before .before .before .before .before .before .before .before .before .before .before .args .line) (c .before .before .before .before .if2 .taken) refl refl (c .before .before .append2 .ensures ∙ ap (λ (l : List ℕ). take (c .before .before .before .before .before .before .before .before .before .before .before .args .counts .kinds * 7) (c .before .before .before .before .before .before .before .before .before .before .before .args .kinds .now) ++ l) (kind-row (c .before .before .before .before .before .before .before .before .before .before .before .args .line) (search needs) _ refl))
 
--- src/lib.rt:117:9
 mul-append-3 : tie.Need-mul-append-3
-mul-append-3 c = ?
+mul-append-3 c = omega (arith, rights-below (c .before .before .before .before .before .before .before .before .args .counts) (c .before .before .before .before .before .before .before .before .args .line) (c .before .before .before .before .before .before .before .before .pre .3) (is-right (c .before .before .before .before .before .before .before .before .args .counts) (c .before .before .before .before .before .before .before .before .args .line) (c .before .before .before .before .before .before .before .before .pre .3) (c .before .before .if1 .left) (c .before .if2 .left)))
 
 -- src/lib.rt:118:10
 array-read-t77 : tie.Need-array-read-t77
@@ -125,21 +118,18 @@ array-read-t77 c = search needs
 array-read-t80 : tie.Need-array-read-t80
 array-read-t80 c = search needs
 
--- src/lib.rt:115:5
 append-requires-3 : tie.Need-append-requires-3
-append-requires-3 c κs = ?
+append-requires-3 c κs = (omega (arith, rights-below (c .before .before .before .before .before .before .before .before .args .counts) (c .before .before .before .before .before .before .before .before .args .line) (c .before .before .before .before .before .before .before .before .pre .3) (is-right (c .before .before .before .before .before .before .before .before .args .counts) (c .before .before .before .before .before .before .before .before .args .line) (c .before .before .before .before .before .before .before .before .pre .3) (c .before .before .if1 .left) (c .before .if2 .left)), c .before .before .before .before .before .before .before .before .pre .2), omega arith)
 
--- src/lib.rt:124:17
 add-t74 : tie.Need-add-t74
-add-t74 c = ?
+add-t74 c = omega (arith, rights-below (c .before .before .before .before .before .before .before .before .before .before .before .args .counts) (c .before .before .before .before .before .before .before .before .before .before .before .args .line) (c .before .before .before .before .before .before .before .before .before .before .before .pre .3) (is-right (c .before .before .before .before .before .before .before .before .before .before .before .args .counts) (c .before .before .before .before .before .before .before .before .before .before .before .args .line) (c .before .before .before .before .before .before .before .before .before .before .before .pre .3) (c .before .before .before .before .before .if1 .left) (c .before .before .before .before .if2 .left)))
 
 -- src/lib.rt:61:1
 same-length-3 : tie.Need-same-length-3
 same-length-3 c = search needs
 
--- src/lib.rt:61:1
 returns-3 : tie.Need-returns-3
-returns-3 c = ?
+returns-3 c = with-right (c .before .before .before .before .before .before .before .before .before .before .before .args .rules .now) (c .before .before .before .before .before .before .before .before .before .before .before .args .kinds .now) (c .before .before .before .before .before .before .before .before .before .before .before .args .rights .now) _ _ _ (c .before .before .before .before .before .before .before .before .before .before .before .args .counts) (c .before .before .before .before .before .before .before .before .before .before .before .args .line) (is-right (c .before .before .before .before .before .before .before .before .before .before .before .args .counts) (c .before .before .before .before .before .before .before .before .before .before .before .args .line) (c .before .before .before .before .before .before .before .before .before .before .before .pre .3) (c .before .before .before .before .before .if1 .left) (c .before .before .before .before .if2 .left)) refl refl (c .before .before .append3 .ensures ∙ ap (λ (l : List ℕ). take (c .before .before .before .before .before .before .before .before .before .before .before .args .counts .rights * 2) (c .before .before .before .before .before .before .before .before .before .before .before .args .rights .now) ++ l) (right-row (c .before .before .before .before .before .before .before .before .before .before .before .args .line) (search needs)))
 
 pub take-row-spec : {M : Type 1} → statement M
 take-row-spec =
