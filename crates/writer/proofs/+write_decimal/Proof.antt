@@ -31,101 +31,45 @@ write-decimal-below t =
     (falls 1 write-decimal-kinds.ps _<_ μ-write-decimal t)
     write-decimal.Pre
 
-write-decimal-cast-write-byte : (t : ℕ) → write-decimal-lts.Need-cast-write-byte (
-  write-byte-reads.Asked,
-  write-byte-reads.Learnt,
-  write-decimal-below t,
-  write-decimal.Post,
-) (write-decimal-at t) write-decimal.Post
+-- what the calls ask and say
+abbrev calls : ℕ → write-decimal-lts.Claims
+calls t = (write-byte-reads.Asked, write-byte-reads.Learnt, write-decimal-below t, write-decimal.Post)
+
+write-decimal-cast-write-byte : (t : ℕ) → write-decimal-lts.Need-cast-write-byte (calls t) (write-decimal-at t) write-decimal.Post
 write-decimal-cast-write-byte t c = search needs
 
-write-decimal-add-write-byte : (t : ℕ) → write-decimal-lts.Need-add-write-byte (
-  write-byte-reads.Asked,
-  write-byte-reads.Learnt,
-  write-decimal-below t,
-  write-decimal.Post,
-) (write-decimal-at t) write-decimal.Post
+write-decimal-add-write-byte : (t : ℕ) → write-decimal-lts.Need-add-write-byte (calls t) (write-decimal-at t) write-decimal.Post
 write-decimal-add-write-byte t c = search needs
 
-write-decimal-write-byte-requires : (t : ℕ) → write-decimal-lts.Need-write-byte-requires (
-  write-byte-reads.Asked,
-  write-byte-reads.Learnt,
-  write-decimal-below t,
-  write-decimal.Post,
-) (write-decimal-at t) write-decimal.Post
+write-decimal-write-byte-requires : (t : ℕ) → write-decimal-lts.Need-write-byte-requires (calls t) (write-decimal-at t) write-decimal.Post
 write-decimal-write-byte-requires t c κs = omega (arith, ap length (decimal-digit (c .before .before .before .args .n) (c .before .if1 .taken)))
 
-write-decimal-same-length : (t : ℕ) → write-decimal-lts.Need-same-length (
-  write-byte-reads.Asked,
-  write-byte-reads.Learnt,
-  write-decimal-below t,
-  write-decimal.Post,
-) (write-decimal-at t) write-decimal.Post
+write-decimal-same-length : (t : ℕ) → write-decimal-lts.Need-same-length (calls t) (write-decimal-at t) write-decimal.Post
 write-decimal-same-length t c = search needs
 
-write-decimal-returns : (t : ℕ) → write-decimal-lts.Need-returns (
-  write-byte-reads.Asked,
-  write-byte-reads.Learnt,
-  write-decimal-below t,
-  write-decimal.Post,
-) (write-decimal-at t) write-decimal.Post
+write-decimal-returns : (t : ℕ) → write-decimal-lts.Need-returns (calls t) (write-decimal-at t) write-decimal.Post
 write-decimal-returns t c = wrote-same _ _ _ _ _ _ (sym (decimal-digit (c .before .before .before .before .before .before .args .n) (c .before .before .before .before .if1 .taken))) (c .before .before .write-byte .ensures)
 
-write-decimal-write-decimal-requires : (t : ℕ) → write-decimal-lts.Need-write-decimal-requires (
-  write-byte-reads.Asked,
-  write-byte-reads.Learnt,
-  write-decimal-below t,
-  write-decimal.Post,
-) (write-decimal-at t) write-decimal.Post
+write-decimal-write-decimal-requires : (t : ℕ) → write-decimal-lts.Need-write-decimal-requires (calls t) (write-decimal-at t) write-decimal.Post
 write-decimal-write-decimal-requires t c κs = (omega arith, omega (arith, decimal-longer (c .before .before .before .args .n) (c .before .if1 .left)))
 
-write-decimal-cast-write-byte-2 : (t : ℕ) → write-decimal-lts.Need-cast-write-byte-2 (
-  write-byte-reads.Asked,
-  write-byte-reads.Learnt,
-  write-decimal-below t,
-  write-decimal.Post,
-) (write-decimal-at t) write-decimal.Post
+write-decimal-cast-write-byte-2 : (t : ℕ) → write-decimal-lts.Need-cast-write-byte-2 (calls t) (write-decimal-at t) write-decimal.Post
 write-decimal-cast-write-byte-2 t c = search needs
 
-write-decimal-add-write-byte-2 : (t : ℕ) → write-decimal-lts.Need-add-write-byte-2 (
-  write-byte-reads.Asked,
-  write-byte-reads.Learnt,
-  write-decimal-below t,
-  write-decimal.Post,
-) (write-decimal-at t) write-decimal.Post
+write-decimal-add-write-byte-2 : (t : ℕ) → write-decimal-lts.Need-add-write-byte-2 (calls t) (write-decimal-at t) write-decimal.Post
 write-decimal-add-write-byte-2 t c = search needs
 
-write-decimal-write-byte-requires-2 : (t : ℕ) → write-decimal-lts.Need-write-byte-requires-2 (
-  write-byte-reads.Asked,
-  write-byte-reads.Learnt,
-  write-decimal-below t,
-  write-decimal.Post,
-) (write-decimal-at t) write-decimal.Post
+write-decimal-write-byte-requires-2 : (t : ℕ) → write-decimal-lts.Need-write-byte-requires-2 (calls t) (write-decimal-at t) write-decimal.Post
 write-decimal-write-byte-requires-2 t c κs = omega (arith, decimal-longer (c .before .before .before .before .before .before .before .args .n) (c .before .before .before .before .before .if1 .left))
 
-write-decimal-same-length-2 : (t : ℕ) → write-decimal-lts.Need-same-length-2 (
-  write-byte-reads.Asked,
-  write-byte-reads.Learnt,
-  write-decimal-below t,
-  write-decimal.Post,
-) (write-decimal-at t) write-decimal.Post
+write-decimal-same-length-2 : (t : ℕ) → write-decimal-lts.Need-same-length-2 (calls t) (write-decimal-at t) write-decimal.Post
 write-decimal-same-length-2 t c = c .before .before .write-byte2 .ensures .size ∙ c .before .before .before .before .before .before .write-decimal .ensures .size
 
-write-decimal-returns-2 : (t : ℕ) → write-decimal-lts.Need-returns-2 (
-  write-byte-reads.Asked,
-  write-byte-reads.Learnt,
-  write-decimal-below t,
-  write-decimal.Post,
-) (write-decimal-at t) write-decimal.Post
+write-decimal-returns-2 : (t : ℕ) → write-decimal-lts.Need-returns-2 (calls t) (write-decimal-at t) write-decimal.Post
 write-decimal-returns-2 t c = wrote-same _ _ _ _ _ _ (sym (decimal-digits (c .before .before .before .before .before .before .before .before .before .before .args .n) (c .before .before .before .before .before .before .before .before .if1 .left))) (wrote-then _ _ _ _ _ _ _ _ (c .before .before .before .before .before .before .write-decimal .ensures) (c .before .before .write-byte2 .ensures))
 
 pub +write-decimal-spec : {M : Type 1} → statement M
-+write-decimal-spec = close μ-write-decimal λ t. write-decimal-lts.spec (
-  write-byte-reads.Asked,
-  write-byte-reads.Learnt,
-  write-decimal-below t,
-  write-decimal.Post,
-)
++write-decimal-spec = close μ-write-decimal λ t. write-decimal-lts.spec (calls t)
     (write-decimal-at t)
     write-decimal.Post
     (write-decimal-cast-write-byte t)
