@@ -1,1 +1,3 @@
 pub mod Walking
+mod Held
+mod Passing
