@@ -58,10 +58,11 @@ module _ (κ : Lft) (d : Reader) where
   abbrev pub passed : Vals on-slice.signature (κ, tt)
   passed = (sliceVal (d .text .ptr) (length (d .text .now)) ∷ [], (vint w64 (d .at) ∷ [], tt))
 
-module _ {M : Type 1} (𝓤 : URA M) (H : Heap 𝓤) (A : Atoms 𝓤) (W : Given 𝓤 H A) (κ : Lft) (q : Share) (d : Reader) where
+module _ {M : Type 1} (𝓤 : URA M) (H : Heap 𝓤) (A : Atoms 𝓤) (W : Given 𝓤 H A) (κ : Lft) (d : Reader) where
   pub twice : ent 𝓤 (sem 𝓤 H A (Own κ d)) (sep 𝓤 (sem 𝓤 H A (Own κ d)) (sem 𝓤 H A (Own κ d)))
   twice = LL.copy (D κ) (T′.the-copy (namedLft 1 0 tt (κ, tt))) 𝓤 H A W .twice d (mach κ d ∷ [])
 
+module _ {M : Type 1} (𝓤 : URA M) (H : Heap 𝓤) (A : Atoms 𝓤) (W : Given 𝓤 H A) (κ : Lft) (q : Share) (d : Reader) where
   asked : ent 𝓤 (onEntry 𝓤 H A on-slice.signature (κ, tt) (q, tt) (d .text, (d .at, tt)) (passed κ d)) (sep 𝓤 (onEntry 𝓤 H A on-slice.signature (κ, tt) (q, tt) (d .text, (d .at, tt)) (passed κ d)) (emp 𝓤))
   asked = qed W ((‵ (flft κ q) ⊛ ‵ ftrue) ∷ ‵ (owns (ShrSlice (named 0) κ u8 ∷ usize ∷ []) (d .text, (d .at, tt)) (passed κ d)) ∷ []) ∵ join ! $ frame ! $ done !
 
@@ -70,7 +71,7 @@ module _ {M : Type 1} (𝓤 : URA M) (H : Heap 𝓤) (A : Atoms 𝓤) (W : Given
       (sep 𝓤 (sep 𝓤 (onEntry 𝓤 H A on-slice.signature (κ, tt) (q, tt) (d .text, (d .at, tt)) (passed κ d)) (emp 𝓤)) (sem 𝓤 H A (Own κ d)))
   apart fits =
       qed W ((‵ (flft κ q) ⊛ ‵ ftrue) ∷ ‵ (owns (B (κ, tt) ∷ []) (d, tt) (mach κ d ∷ [], tt)) ∷ []) ∵
-      move ! (1 ∷ []) $ fsplit ! $ move ! (1 ∷ []) $ drop ! $ use1 W (‵ (Own κ d) ⊛ ‵ (Own κ d)) twice $ split ! $
+      move ! (1 ∷ []) $ fsplit ! $ move ! (1 ∷ []) $ drop ! $ use1 W (‵ (Own κ d) ⊛ ‵ (Own κ d)) (twice 𝓤 H A W κ d) $ split ! $
       use1 W (given (mach κ d ∷ [] ≡ mach κ d ∷ []) (‵ (all-own (D κ .parts) (L κ) (vd κ d)))) (own-open 𝓤 H A W (D κ) (L κ) (vd κ d) (mach κ d)) $ learn ! (λ _.
       use1 W (‵ (ownAt (D κ .parts) (L κ) 0 (d .text)) ⊛ ‵ (rest (D κ .parts) (L κ) 0 (vd κ d))) (own-out 𝓤 H A W (D κ .parts) (L κ) 0 (vd κ d)) $ split ! $
       -- [what text owns; what at owns; what the struct owns; the token]
