@@ -42,8 +42,8 @@ module _ (κ : Lft) (s : RefT (List ℕ)) (n : ℕ) where
   abbrev pub v : Val
   v = sliceVal (s .ptr) (length (s .now))
 
-  abbrev pub given : Vals new.signature (κ, tt)
-  given = (v ∷ [], (vint w64 n ∷ [], tt))
+  abbrev pub passed : Vals new.signature (κ, tt)
+  passed = (v ∷ [], (vint w64 n ∷ [], tt))
 
   abbrev pub Own : Fml
   Own = ShrSlice (named 0) κ u8 .own s (v ∷ [])
@@ -54,13 +54,13 @@ module _ {M : Type 1} (𝓤 : URA M) (H : Heap 𝓤) (A : Atoms 𝓤) (mem : Mem
 
   module _ (κ : Lft) (q : Share) (s : RefT (List ℕ)) (n : ℕ) where
     abbrev pub to-new : New .Ghost
-    to-new = (((κ, tt), (q, tt), tt, (s, (n, tt)), given κ s n), tt)
+    to-new = (((κ, tt), (q, tt), tt, (s, (n, tt)), passed κ s n), tt)
 
-    pub goes-new : Given 𝓤 H A → ent 𝓤 (onEntry 𝓤 H A new.signature (κ, tt) (q, tt) (s, (n, tt)) (given κ s n)) (sep 𝓤 (New .pre to-new) (sem 𝓤 H A (Own κ s n)))
+    pub goes-new : Given 𝓤 H A → ent 𝓤 (onEntry 𝓤 H A new.signature (κ, tt) (q, tt) (s, (n, tt)) (passed κ s n)) (sep 𝓤 (New .pre to-new) (sem 𝓤 H A (Own κ s n)))
     goes-new W =
-        qed W ((‵ (flft κ q) ⊛ ‵ ftrue) ∷ ‵ (owns (ShrSlice (named 0) κ u8 ∷ usize ∷ []) (s, (n, tt)) (given κ s n)) ∷ []) ∵
+        qed W ((‵ (flft κ q) ⊛ ‵ ftrue) ∷ ‵ (owns (ShrSlice (named 0) κ u8 ∷ usize ∷ []) (s, (n, tt)) (passed κ s n)) ∷ []) ∵
         move ! (1 ∷ []) $ fsplit ! $ use1 W (‵ (Own κ s n) ⊛ ‵ (Own κ s n)) (shr-slice-copy 𝓤 H A W (named 0) κ u8 .twice s (v κ s n ∷ [])) $ split ! $
-        move ! (0 ∷ 2 ∷ []) $ fjoin ! $ move ! (2 ∷ 0 ∷ []) $ use2 W (raw (New .pre to-new)) (qed W ((‵ (flft κ q) ⊛ ‵ ftrue) ∷ ‵ (owns (ShrSlice (named 0) κ u8 ∷ usize ∷ []) (s, (n, tt)) (given κ s n)) ∷ []) ∵ join ! $ frame ! $ done !) $ frame ! $ done !
+        move ! (0 ∷ 2 ∷ []) $ fjoin ! $ move ! (2 ∷ 0 ∷ []) $ use2 W (raw (New .pre to-new)) (qed W ((‵ (flft κ q) ⊛ ‵ ftrue) ∷ ‵ (owns (ShrSlice (named 0) κ u8 ∷ usize ∷ []) (s, (n, tt)) (passed κ s n)) ∷ []) ∵ join ! $ frame ! $ done !) $ frame ! $ done !
 
     pub new-said : (r : Reader) → ent 𝓤 (ensured 𝓤 H A new.ended (new.clauses 𝓤 H A mem run) (κ, tt) (s, (n, tt)) tt r) (fact 𝓤 ((r .text ≡ s) × (r .at ≡ n)))
     new-said r = exE 𝓤 _ (λ ws. snd∗ 𝓤 (sem 𝓤 H A (lasts new.ended (κ, tt) (s, (n, tt)) ws)) (fact 𝓤 ((r .text ≡ s) × (r .at ≡ n))))
