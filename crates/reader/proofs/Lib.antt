@@ -1,1 +1,4 @@
 pub mod Walking
+mod Held
+mod Passing
+mod Opening

@@ -1,16 +1,15 @@
 -- What carries a reader through a text: the records from a place on are the record there and the records from the next place on; the
 -- next place is further on and within the text; from the end on there is none.
-use Prim.Native.Nat.{ℕ, suc, _+_, _-_, _<_, _≤_, min}
-use mathlib.Core.Path.{_≡_, refl, sym, ap, _∙_}
+use Prim.Native.Nat.{ℕ, _+_, _-_, _<_, _≤_, min}
+use mathlib.Core.Path.{_≡_, sym, ap, _∙_}
 use mathlib.Core.List.{List, [], _∷_, map}
 use native.Mathlib.Omega.{arith, min-cases}
 use lib.ListN.{length, getD, take, drop, drop-of-length-le}
 use lib.Seq.{take-nil, drop-length}
-use Rattle.program.specs.Text.{records, fields, unquoted, said}
+use Rattle.program.specs.Text.{records, unquoted, said}
 use Rattle.program.specs.Lines.{lineOf}
-use Rattle.program.specs.declared.Line.{Line}
-use Rattle.text.specs.Places.{part, atCrlf, bytesBefore, recordEnd, fieldEnd, fieldsAfter}
-use Rattle.text.proofs.Ends.{record-within, records-next, fields-next}
+use Rattle.text.specs.Places.{part, atCrlf, recordEnd, fieldEnd}
+use Rattle.text.proofs.Ends.{records-next, fields-next}
 use Rattle.reader.specs.Reading.{recordAt, firstFieldAt, lineAt, nextAt}
 
 -- past the end, nothing is left

@@ -1,5 +1,6 @@
-// "A reader walks the lent text record by record, holding the text and its place". The work is done on a slice and a number; whoever
-// reads a text calls `line_from` and `next_from`, whose parameters are plain.
+// "A reader walks the lent text record by record, holding the text and its place". The work is done on a slice and a number, and the
+// functions over the struct are thin, since each is proved by a walk of its code. A caller of `line_from` and `next_from`, whose
+// parameters are plain, needs no such walk.
 ghost use mathlib.Core.Path.{_≡_};
 ghost use Rattle.reader.specs.Reading.{recordAt, firstFieldAt, lineAt, nextAt};
 use program::Line;
@@ -10,7 +11,7 @@ pub struct Reader<'a> {
 }
 
 // The record that begins at the place: a part of the text.
-pub fn record_at(text: &[u8], at: usize) -> &[u8]
+fn record_at(text: &[u8], at: usize) -> &[u8]
     ensures { λ r. ⌜ now r ≡ recordAt (now (text .entry)) at ⌝ }
 {
     if text.len() < at {
@@ -21,7 +22,7 @@ pub fn record_at(text: &[u8], at: usize) -> &[u8]
 }
 
 // Its first field, without the quotes around it if it has them.
-pub fn first_field_at(text: &[u8], at: usize) -> &[u8]
+fn first_field_at(text: &[u8], at: usize) -> &[u8]
     ensures { λ r. ⌜ now r ≡ firstFieldAt (now (text .entry)) at ⌝ }
 {
     let bytes = record_at(text, at);
@@ -30,7 +31,7 @@ pub fn first_field_at(text: &[u8], at: usize) -> &[u8]
 }
 
 // Where the next record begins: past this one's CRLF, or at the text's end.
-pub fn next_at(text: &[u8], at: usize) -> usize
+fn next_at(text: &[u8], at: usize) -> usize
     ensures { λ r. ⌜ r ≡ nextAt (now (text .entry)) at ⌝ }
 {
     if text.len() < at {
@@ -79,7 +80,7 @@ pub fn line_from(text: &[u8], at: usize) -> Line
     text::line_of(record(new(text, at)))
 }
 
-// Where the record behind it begins.
+// Where the next record begins.
 pub fn next_from(text: &[u8], at: usize) -> usize
     ensures { λ r. ⌜ r ≡ nextAt (now (text .entry)) at ⌝ }
 {
