@@ -1,25 +1,29 @@
 -- The machine while the policy is loaded: a row for which there is room is taken, and where none is, the program goes on as if an
 -- event had come.
 use Prim.Native.Nat.{ℕ, zero, suc, _+_, _*_, _/_, _≤_, _<_}
-use mathlib.Core.Path.{_≡_, refl, sym, ap, _∙_}
+use mathlib.Core.Path.{_≡_, refl, sym, ap, _∙_, subst⁻¹}
 use mathlib.Core.Bool.{Bool, true, false, _&&_, _||_, cond, true≢false}
 use mathlib.Core.Logic.{_≢_, _⊎_, inl, inr}
-use mathlib.Core.List.{List, [], _∷_}
+use mathlib.Core.List.{List, [], _∷_, _++_, map}
 use native.Mathlib.Omega.{arith}
+use native.Mathlib.Numerals.{add-one}
 use lib.Dec.{eqb, ltb, leb}
 use lib.ListN.{length, take, replicate}
 use lib.Seq.{length-take-le}
 use borrow.Author.Tests.{lt-ltb, le-ltb, ne-eqb, ltb-false, lt-leb, le-leb}
 use Rattle.model.specs.Lists.{any}
 use Rattle.model.specs.Records.{Tables}
+use Rattle.model.specs.Layout.{encode}
 use Rattle.model.specs.Calls.{answer}
 use Rattle.model.proofs.Tests.{lt-or-ge}
 use Rattle.program.specs.Vocabulary.{words, numbered}
 use Rattle.program.specs.Lines.{lineOf}
-use Rattle.program.specs.Program.{Machine, isPolicy, isFull, badWays, isBad, afterBad, afterPolicy, afterEvent, step, steps, callOf}
+use Rattle.program.specs.Program.{Machine, isPolicy, isFull, badWays, isBad, afterBad, afterPolicy, afterEvent, step, steps, callOf, withRow, badRecord, start}
 use Rattle.program.specs.declared.Line.{Line}
 use Rattle.program.proofs.Counted.{counted}
-use Rattle.load.specs.Rows.{tablesOf, hasRoom, running}
+use Rattle.reader.specs.Reading.{recordAt, lineAt, nextAt}
+use Rattle.reader.proofs.Walking.{lines-from, none-from, next-behind, next-within}
+use Rattle.load.specs.Rows.{tablesOf, hasRoom, running, linesFrom, Loads}
 use Rattle.load.specs.declared.Counts.{Counts}
 use Rattle.load.proofs.Appending.{room-rule, room-kind, room-right, room-none, rules-below, kinds-below, rights-below, is-right}
 
@@ -53,3 +57,207 @@ still m l e = ap (λ (b : Bool). cond b m (cond (isBad m l) (afterBad m) (cond (
 pub stopped-stays : (m : Machine) (ls : List Line) → m .stopped ≡ true → steps m ls ≡ m
 stopped-stays m [] e = refl
 stopped-stays m (l ∷ ls) e = ap (λ (x : Machine). steps x ls) (still m l e) ∙ stopped-stays m ls e
+
+-- ── the ways to be bad, by the line's word ──
+
+-- the ways for a word w: whether each table is full, and whether an event has come
+abbrev pub some : ℕ → Bool → Bool → Bool → Bool → Bool
+some w rules kinds rights came = any (λ (way : Bool). way) (eqb w 11 ∷ (eqb w 0 && rules) ∷ (eqb w 1 && kinds) ∷ (eqb w 2 && rights) ∷ (ltb w 3 && came) ∷ [])
+
+pub bad-is : (m : Machine) (l : Line) → isBad m l ≡ some (l .word) (isFull 512 11 (m .tables .rules)) (isFull 128 7 (m .tables .kinds)) (isFull 2048 2 (m .tables .rights)) (m .eventCame)
+unfolding badWays
+bad-is m l = refl
+
+-- an event is not bad, whatever has come
+pub event-not-bad : (w : ℕ) (a b c came : Bool) → 3 ≤ w → w < 11 → some w a b c came ≡ false
+event-not-bad w a b c came h k =
+    λ i.
+    any (λ (way : Bool). way)
+    (ne-eqb w 11 (λ e. omega (arith, e)) i ∷ (ne-eqb w 0 (λ e. omega (arith, e)) i && a) ∷ (ne-eqb w 1 (λ e. omega (arith, e)) i && b) ∷ (ne-eqb w 2 (λ e. omega (arith, e)) i && c) ∷ (le-ltb w 3 h i && came) ∷ [])
+
+-- a word past the policy's is as bad before the first event as after it
+came-or-not : (w : ℕ) (a b c : Bool) → 3 ≤ w → some w a b c false ≡ some w a b c true
+came-or-not w a b c h = (λ i. any (λ (way : Bool). way) (eqb w 11 ∷ (eqb w 0 && a) ∷ (eqb w 1 && b) ∷ (eqb w 2 && c) ∷ (le-ltb w 3 h i && false) ∷ [])) ∙ sym (λ i. any (λ (way : Bool). way) (eqb w 11 ∷ (eqb w 0 && a) ∷ (eqb w 1 && b) ∷ (eqb w 2 && c) ∷ (le-ltb w 3 h i && true) ∷ []))
+
+or-later : (a b : Bool) → b ≡ true → (a || b) ≡ true
+or-later true b e = refl
+or-later false b e = e
+
+-- a record of the policy after an event
+pub policy-after-event : (w : ℕ) (a b c : Bool) → w < 3 → some w a b c true ≡ true
+policy-after-event w a b c h =
+    or-later (eqb w 11) _ (or-later (eqb w 0 && a) _ (or-later (eqb w 1 && b) _ (or-later (eqb w 2 && c) _ (ap (λ (v : Bool). (v && true) || false) (lt-ltb w 3 h)))))
+
+pub unknown-bad : (w : ℕ) (a b c came : Bool) → w ≡ 11 → some w a b c came ≡ true
+unknown-bad w a b c came e = ap (λ (n : ℕ). some n a b c came) e
+
+-- ── what a step comes to ──
+
+pub bad-written : (m : Machine) (l : Line) (ls : List Line) → m .stopped ≡ false → isBad m l ≡ true → steps m (l ∷ ls) .written ≡ m .written ++ badRecord (suc (m .taken))
+unfolding step afterBad
+bad-written m l ls s b =
+    ap (λ (x : Machine). steps x ls .written) ((λ i. cond (s i) m (cond (b i) (afterBad m) (cond (isPolicy l) (afterPolicy m l) (afterEvent m (answer (m .tables) (m .state) [] (callOf l)))))))
+    ∙ ap (λ (x : Machine). x .written) (stopped-stays (afterBad m) ls refl)
+
+pub event-taken : (m : Machine) (l : Line) → m .stopped ≡ false → isBad m l ≡ false → 3 ≤ l .word → step m l ≡ afterEvent m (answer (m .tables) (m .state) [] (callOf l))
+unfolding step
+event-taken m l s b h = λ i. cond (s i) m (cond (b i) (afterBad m) (cond (le-ltb (l .word) 3 h i) (afterPolicy m l) (afterEvent m (answer (m .tables) (m .state) [] (callOf l)))))
+
+policy-taken : (m : Machine) (l : Line) → m .stopped ≡ false → isBad m l ≡ false → l .word < 3 → step m l ≡ afterPolicy m l
+unfolding step
+policy-taken m l s b h = λ i. cond (s i) m (cond (b i) (afterBad m) (cond (lt-ltb (l .word) 3 h i) (afterPolicy m l) (afterEvent m (answer (m .tables) (m .state) [] (callOf l)))))
+
+-- ── loading ──
+
+-- a machine that has taken records of the policy only
+abbrev pub loading : Tables → ℕ → Machine
+loading t taken = record { tables = t; state = replicate 1602 0; eventCame = false; taken = taken; written = []; stopped = false }
+
+module _ (rules kinds rights : List ℕ) (c : Counts) (size₁ : c .rules * 11 ≤ length rules) (size₂ : c .kinds * 7 ≤ length kinds) (size₃ : c .rights * 2 ≤ length rights) (l : Line) where
+  abbrev full₁ : Bool
+  full₁ = isFull 512 11 (take (c .rules * 11) rules)
+
+  abbrev full₂ : Bool
+  full₂ = isFull 128 7 (take (c .kinds * 7) kinds)
+
+  abbrev full₃ : Bool
+  full₃ = isFull 2048 2 (take (c .rights * 2) rights)
+
+  -- with room for the line it is not bad, and it is of the policy
+  room-good : hasRoom c l ≡ true → (some (l .word) full₁ full₂ full₃ false ≡ false) × (l .word < 3)
+  room-good h = go (lt-or-ge (l .word) 1) (lt-or-ge (l .word) 2)
+    where
+      go : (l .word < 1) ⊎ (1 ≤ l .word) → (l .word < 2) ⊎ (2 ≤ l .word) → (some (l .word) full₁ full₂ full₃ false ≡ false) × (l .word < 3)
+      go (inl a) b = let e : l .word ≡ 0 = omega arith in ((λ i. some (e i) (rules-free rules (c .rules) (rules-below c l h e) size₁ i) full₂ full₃ false), omega arith)
+      go (inr a) (inl b) = let e : l .word ≡ 1 = omega arith in ((λ i. some (e i) full₁ (kinds-free kinds (c .kinds) (kinds-below c l h e) size₂ i) full₃ false), omega arith)
+      go (inr a) (inr b) =
+          let e : l .word ≡ 2 = is-right c l h (λ z. omega arith) (λ z. omega arith) in
+          ((λ i. some (e i) full₁ full₂ (rights-free rights (c .rights) (rights-below c l h e) size₃ i) false), omega (arith, e))
+
+  pub row-taken : (taken : ℕ) → hasRoom c l ≡ true → step (loading (tablesOf rules kinds rights c) taken) l ≡ loading (withRow (tablesOf rules kinds rights c) l) (suc taken)
+  unfolding afterPolicy
+  row-taken taken h = let g = room-good h in policy-taken (loading (tablesOf rules kinds rights c) taken) l refl (bad-is (loading (tablesOf rules kinds rights c) taken) l ∙ g .0) (g .1)
+
+  -- without room for it, a line of the policy is bad, before an event and after it
+  no-room : hasRoom c l ≡ false → l .word < 3 → (came : Bool) → some (l .word) full₁ full₂ full₃ came ≡ true
+  no-room h k came = go (lt-or-ge (l .word) 1) (lt-or-ge (l .word) 2)
+    where
+      go : (l .word < 1) ⊎ (1 ≤ l .word) → (l .word < 2) ⊎ (2 ≤ l .word) → some (l .word) full₁ full₂ full₃ came ≡ true
+      go (inl a) b = let e : l .word ≡ 0 = omega arith in λ i. some (e i) (rules-full rules (c .rules) (ltb-false (c .rules) 512 (room-rule c l e ∙ h)) size₁ i) full₂ full₃ came
+      go (inr a) (inl b) = let e : l .word ≡ 1 = omega arith in λ i. some (e i) full₁ (kinds-full kinds (c .kinds) (ltb-false (c .kinds) 128 (room-kind c l e ∙ h)) size₂ i) full₃ came
+      go (inr a) (inr b) = let e : l .word ≡ 2 = omega arith in λ i. some (e i) full₁ full₂ (rights-full rights (c .rights) (ltb-false (c .rights) 2048 (room-right c l e ∙ h)) size₃ i) came
+
+  -- so the program goes on as if an event had come
+  pub events-begin : (taken : ℕ) (ls : List Line) → hasRoom c l ≡ false → steps (loading (tablesOf rules kinds rights c) taken) (l ∷ ls) .written ≡ steps (running (tablesOf rules kinds rights c) (replicate 1602 0) taken []) (l ∷ ls) .written
+  unfolding afterEvent
+  events-begin taken ls h = go (lt-or-ge (l .word) 3)
+    where
+      before : Machine
+      before = loading (tablesOf rules kinds rights c) taken
+
+      after : Machine
+      after = running (tablesOf rules kinds rights c) (replicate 1602 0) taken []
+
+      both : (b : Bool) → some (l .word) full₁ full₂ full₃ true ≡ b → 3 ≤ l .word → steps before (l ∷ ls) .written ≡ steps after (l ∷ ls) .written
+      both true e k = bad-written before l ls refl (bad-is before l ∙ came-or-not (l .word) full₁ full₂ full₃ k ∙ e) ∙ sym (bad-written after l ls refl (bad-is after l ∙ e))
+      both false e k =
+          ap (λ (x : Machine). steps x ls .written) (event-taken before l refl (bad-is before l ∙ came-or-not (l .word) full₁ full₂ full₃ k ∙ e) k)
+          ∙ sym (ap (λ (x : Machine). steps x ls .written) (event-taken after l refl (bad-is after l ∙ e) k))
+
+      go : (l .word < 3) ⊎ (3 ≤ l .word) → steps before (l ∷ ls) .written ≡ steps after (l ∷ ls) .written
+      go (inl k) = bad-written before l ls refl (bad-is before l ∙ no-room h k false) ∙ sym (bad-written after l ls refl (bad-is after l ∙ no-room h k true))
+      go (inr k) = both (some (l .word) full₁ full₂ full₃ true) refl k
+
+-- ── the fewest numbers of a record of the policy ──
+
+pub two-numbers : (c : Counts) (bytes : List ℕ) → hasRoom c (lineOf bytes) ≡ true → 2 ≤ lineOf bytes .count
+two-numbers c bytes h = go (lt-or-ge (lineOf bytes .word) 1) (lt-or-ge (lineOf bytes .word) 2)
+  where
+    least : (w : ℕ) → lineOf bytes .word ≡ w → w < 11 → 2 ≤ numbered w .least → 2 ≤ lineOf bytes .count
+    least w e k m =
+        let n : numbered w .least ≡ numbered (lineOf bytes .word) .least = ap (λ (x : ℕ). numbered x .least) (sym e) in
+        omega (arith, m, n, counted bytes (omega (arith, e, k)) .0)
+
+    go : (lineOf bytes .word < 1) ⊎ (1 ≤ lineOf bytes .word) → (lineOf bytes .word < 2) ⊎ (2 ≤ lineOf bytes .word) → 2 ≤ lineOf bytes .count
+    go (inl a) b = least 0 (omega arith) (omega arith) (omega arith)
+    go (inr a) (inl b) = least 1 (omega arith) (omega arith) (omega arith)
+    go (inr a) (inr b) = least 2 (is-right c (lineOf bytes) h (λ z. omega arith) (λ z. omega arith)) (omega arith) (omega arith)
+
+-- ── the records of the policy, one after the other ──
+
+pub record Going (text rules kinds rights : List ℕ) (at taken : ℕ) (c : Counts) : Type 0 where
+  pub in-text : at ≤ length text
+  pub few : taken ≤ at
+  pub rules-size : length rules ≡ 5632
+  pub kinds-size : length kinds ≡ 896
+  pub rights-size : length rights ≡ 4096
+  pub rules-room : c .rules ≤ 512
+  pub kinds-room : c .kinds ≤ 128
+  pub rights-room : c .rights ≤ 2048
+  pub so-far : steps start (linesFrom text 0) ≡ steps (loading (tablesOf rules kinds rights c) taken) (linesFrom text at)
+
+pub going-starts : (text rules kinds rights : List ℕ) → length rules ≡ 5632 → length kinds ≡ 896 → length rights ≡ 4096 → Going text rules kinds rights 0 0 (record { rules = 0; kinds = 0; rights = 0 })
+unfolding encode
+going-starts text rules kinds rights a b c =
+    record { in-text = omega arith; few = omega arith; rules-size = a; kinds-size = b; rights-size = c; rules-room = omega arith; kinds-room = omega arith; rights-room = omega arith; so-far = refl }
+
+module _ (text rules kinds rights : List ℕ) (at taken : ℕ) (c : Counts) (g : Going text rules kinds rights at taken c) where
+  pub going-on : (rules′ kinds′ rights′ : List ℕ) (c′ : Counts) → at < length text → hasRoom c (lineAt text at) ≡ true → length rules′ ≡ 5632 → length kinds′ ≡ 896 → length rights′ ≡ 4096
+      → tablesOf rules′ kinds′ rights′ c′ ≡ withRow (tablesOf rules kinds rights c) (lineAt text at) → (c′ .rules ≤ 512) × (c′ .kinds ≤ 128) × (c′ .rights ≤ 2048) → Going text rules′ kinds′ rights′ (nextAt text at) (taken + 1) c′
+  going-on rules′ kinds′ rights′ c′ h room a b d e r =
+      record {
+        in-text = next-within text at;
+        few = omega (arith, g .few, next-behind text at h);
+        rules-size = a;
+        kinds-size = b;
+        rights-size = d;
+        rules-room = r .0;
+        kinds-room = r .1;
+        rights-room = r .2;
+        so-far =
+            g .so-far
+            ∙ ap (steps (loading (tablesOf rules kinds rights c) taken)) (lines-from text at h)
+            ∙ ap (λ (m : Machine). steps m (linesFrom text (nextAt text at))) (row-taken rules kinds rights c (omega (arith, g .rules-room, g .rules-size)) (omega (arith, g .kinds-room, g .kinds-size)) (omega (arith, g .rights-room, g .rights-size)) (lineAt text at) taken room)
+            ∙ (λ i. steps (loading (sym e i) (sym (add-one taken) i)) (linesFrom text (nextAt text at)));
+      }
+
+  pub going-stops : at < length text → hasRoom c (lineAt text at) ≡ false → Loads text rules kinds rights (record { at = at; taken = taken; rules = c .rules; kinds = c .kinds; rights = c .rights })
+  going-stops h room =
+      record {
+        in-text = g .in-text;
+        few = g .few;
+        rules-room = g .rules-room;
+        kinds-room = g .kinds-room;
+        rights-room = g .rights-room;
+        goes-on =
+            ap (λ (m : Machine). m .written) (g .so-far)
+            ∙ ap (λ (ls : List Line). steps (loading (tablesOf rules kinds rights c) taken) ls .written) (lines-from text at h)
+            ∙ events-begin rules kinds rights c (omega (arith, g .rules-room, g .rules-size)) (omega (arith, g .kinds-room, g .kinds-size)) (omega (arith, g .rights-room, g .rights-size)) (lineAt text at) taken (linesFrom text (nextAt text at)) room
+            ∙ ap (λ (ls : List Line). steps (running (tablesOf rules kinds rights c) (replicate 1602 0) taken []) ls .written) (sym (lines-from text at h));
+      }
+
+  pub going-ends : length text ≤ at → Loads text rules kinds rights (record { at = at; taken = taken; rules = c .rules; kinds = c .kinds; rights = c .rights })
+  going-ends h =
+      record {
+        in-text = g .in-text;
+        few = g .few;
+        rules-room = g .rules-room;
+        kinds-room = g .kinds-room;
+        rights-room = g .rights-room;
+        goes-on =
+            ap (λ (m : Machine). m .written) (g .so-far)
+            ∙ ap (λ (rs : List (List ℕ)). steps (loading (tablesOf rules kinds rights c) taken) (map lineOf rs) .written) (none-from text at h)
+            ∙ ap (λ (rs : List (List ℕ)). steps (running (tablesOf rules kinds rights c) (replicate 1602 0) taken []) (map lineOf rs) .written) (sym (none-from text at h));
+      }
+
+-- the same of the line and the place that code has read
+pub going-to : (text rules kinds rights : List ℕ) (at taken : ℕ) (c : Counts) → Going text rules kinds rights at taken c → (rules′ kinds′ rights′ : List ℕ) (c′ : Counts) (line : Line) (next : ℕ) → line ≡ lineAt text at → next ≡ nextAt text at
+    → at < length text → hasRoom c line ≡ true → length rules′ ≡ 5632 → length kinds′ ≡ 896 → length rights′ ≡ 4096
+    → tablesOf rules′ kinds′ rights′ c′ ≡ withRow (tablesOf rules kinds rights c) line → (c′ .rules ≤ 512) × (c′ .kinds ≤ 128) × (c′ .rights ≤ 2048) → Going text rules′ kinds′ rights′ next (taken + 1) c′
+going-to text rules kinds rights at taken c g rules′ kinds′ rights′ c′ line next e f h room a b d w r =
+    subst⁻¹ (λ (n : ℕ). Going text rules′ kinds′ rights′ n (taken + 1) c′) f
+    (going-on text rules kinds rights at taken c g rules′ kinds′ rights′ c′ h (ap (hasRoom c) (sym e) ∙ room) a b d (w ∙ ap (withRow (tablesOf rules kinds rights c)) e) r)
+
+pub counted-two : (c : Counts) (text : List ℕ) (at : ℕ) (line : Line) → line ≡ lineAt text at → hasRoom c line ≡ true → 2 ≤ line .count
+unfolding lineAt
+counted-two c text at line e h = subst⁻¹ (λ (l : Line). 2 ≤ l .count) e (two-numbers c (recordAt text at) (ap (hasRoom c) (sym e) ∙ h))

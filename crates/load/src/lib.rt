@@ -5,8 +5,9 @@ ghost use mathlib.Core.List.{_++_};
 ghost use Prim.Native.Nat.{_+_, _*_, _<_, _≤_};
 ghost use lib.ListN.{length, take};
 ghost use mathlib.Core.Bool.{true};
-ghost use Rattle.program.specs.Program.{withRow, start, steps};
-ghost use Rattle.load.specs.Rows.{tablesOf, hasRoom, linesFrom, Loads};
+ghost use Rattle.model.specs.Limits.{mostRules, mostKinds, mostRights};
+ghost use Rattle.program.specs.Program.{withRow};
+ghost use Rattle.load.specs.Rows.{tablesOf, hasRoom, Loads};
 use program::Line;
 
 const RULE: u16 = 0;
@@ -65,8 +66,9 @@ fn take_row(
     counts: Counts,
     line: Line,
 ) -> Counts
-    requires { ⌜ (length (now rules) ≡ 5632) × (length (now kinds) ≡ 896) × (length (now rights) ≡ 4096) × (hasRoom counts line ≡ true) × (2 ≤ line .count) ⌝ }
-    ensures { λ r. ⌜ tablesOf (now (rules .exit)) (now (kinds .exit)) (now (rights .exit)) r ≡ withRow (tablesOf (now (rules .entry)) (now (kinds .entry)) (now (rights .entry)) counts) line ⌝ }
+    requires { ⌜ (length (now rules) ≡ 5632) × (length (now kinds) ≡ 896) × (length (now rights) ≡ 4096) × (hasRoom counts line ≡ true) × (2 ≤ line .count) × (counts .rules ≤ mostRules) × (counts .kinds ≤ mostKinds) × (counts .rights ≤ mostRights) ⌝ }
+    ensures rows { λ r. ⌜ tablesOf (now (rules .exit)) (now (kinds .exit)) (now (rights .exit)) r ≡ withRow (tablesOf (now (rules .entry)) (now (kinds .entry)) (now (rights .entry)) counts) line ⌝ }
+    ensures room { λ r. ⌜ (r .rules ≤ mostRules) × (r .kinds ≤ mostKinds) × (r .rights ≤ mostRights) ⌝ }
 {
     let word = line.word;
     let n = line.numbers;
