@@ -1,0 +1,53 @@
+// The program as one function: the bytes of the input in, the bytes of the output out.
+ghost use mathlib.Core.Path.{_≡_};
+ghost use mathlib.Core.List.{[]};
+ghost use Prim.Native.Nat.{_+_, _*_, _≤_};
+ghost use lib.Dec.{T};
+ghost use lib.ListN.{length};
+ghost use Rattle.model.specs.Layout.{policyOf};
+ghost use Rattle.model.specs.Sound.{sound};
+ghost use Rattle.program.specs.Program.{mostBytes, steps, program};
+ghost use Rattle.inner.specs.Lent.{lent};
+ghost use Rattle.load.specs.Rows.{linesFrom, running};
+ghost use Rattle.session.specs.Output.{Holds};
+
+const POLICY_WORDS: u16 = 3;
+
+const WORDS: u16 = 11;
+
+const MOST_BYTES: usize = 65536;
+
+// Answers the events from a place on, until the text ends or a record is bad. The policy is complete when the first event comes, so it
+// is judged here, once; and a record of the policy is bad from now on.
+fn run(
+    rules: &[u16],
+    kinds: &[u16],
+    rights: &[u16],
+    text: &[u8],
+    from: usize,
+    taken: usize,
+    state: &mut [u16],
+    out: &mut [u8],
+) -> usize
+    requires { ⌜ T (sound (policyOf (lent (now rules) (now kinds) (now rights))) (now state)) × (from ≤ length (now text)) × (taken ≤ from) × (length (now text) ≤ mostBytes) × (2 * length (now text) + 16 ≤ length (now out)) ⌝ }
+    ensures { λ r. ⌜ Holds (now (out .exit)) r (steps (running (lent (now (rules .entry)) (now (kinds .entry)) (now (rights .entry))) (now (state .entry)) taken []) (linesFrom (now (text .entry)) from) .written) ⌝ }
+{
+    let judged = sound::policy_sound(rules, kinds, rights);
+    let mut at = from;
+    let mut n = taken;
+    let mut w: usize = 0;
+    while at < text.len() {
+        let line = reader::line_from(text, at);
+        n += 1;
+        if line.word < POLICY_WORDS {
+            return writer::write_bad(out, w, n);
+        }
+        if WORDS <= line.word {
+            return writer::write_bad(out, w, n);
+        }
+        let answer = event::answer_event(rules, kinds, rights, judged, state, line);
+        w = writer::write_answer(out, w, answer);
+        at = reader::next_from(text, at);
+    }
+    w
+}
