@@ -17,6 +17,12 @@ const WORDS: u16 = 11;
 
 const MOST_BYTES: usize = 65536;
 
+const RULE_WIDTH: usize = 11;
+
+const KIND_WIDTH: usize = 7;
+
+const RIGHT_WIDTH: usize = 2;
+
 // Answers the events from a place on, until the text ends or a record is bad. The policy is complete when the first event comes, so it
 // is judged here, once; and a record of the policy is bad from now on.
 fn run(
@@ -50,4 +56,33 @@ fn run(
         at = reader::next_from(text, at);
     }
     w
+}
+
+// The whole output for the whole input. Twice the input and 16 bytes more is always room enough: an answer is at most 13 bytes and an
+// event's record at least 7.
+pub fn session(text: &[u8], out: &mut [u8]) -> usize
+    requires { ⌜ 2 * length (now text) + 16 ≤ length (now out) ⌝ }
+    ensures { λ r. ⌜ Holds (now (out .exit)) r (program (now (text .entry))) ⌝ }
+{
+    if MOST_BYTES < text.len() {
+        return writer::write_bad(out, 0, 0);
+    }
+    let mut rules = [0u16; 5632];
+    let mut kinds = [0u16; 896];
+    let mut rights = [0u16; 4096];
+    let loaded = load::load(text, &mut rules, &mut kinds, &mut rights);
+    let a = loaded.rules * RULE_WIDTH;
+    let b = loaded.kinds * KIND_WIDTH;
+    let c = loaded.rights * RIGHT_WIDTH;
+    let mut state = [0u16; 1602];
+    run(
+        &rules[..a],
+        &kinds[..b],
+        &rights[..c],
+        text,
+        loaded.at,
+        loaded.taken,
+        &mut state,
+        out,
+    )
 }
