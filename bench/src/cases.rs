@@ -1,0 +1,87 @@
+//! Which calls are measured, on which tables.
+
+use crate::call::Call::{self, *};
+use crate::case::{Again, Case};
+use crate::scene::{Scene, Size, FULL, LAST_PRIVILEGE, LATE_USER, MIDDLE, NO_PRIVILEGE};
+
+fn case(name: &str, tables: &str, scene: &Scene, calls: &[(Call, u16, u16)]) -> Case {
+    Case { name: name.into(), tables: tables.into(), scene: scene.clone(), calls: calls.to_vec(), again: Again::AsItWas }
+}
+
+fn on_empty(scene: &Scene) -> Vec<Case> {
+    let case = |name: &str, calls: &[(Call, u16, u16)]| case(name, "empty", scene, calls);
+    vec![
+        case("fresh", &[(Fresh, 0, 0)]),
+        case("activate, then logout", &[(Activate(41, 1), 0, 1), (Logout(41), 0, 1)]),
+        case("appoint, refused 7", &[(Appoint(7, 41, 0), 7, 0)]),
+        case("revoke, refused 9", &[(Revoke(7, 41, 0, 7), 9, 0)]),
+        case("withdraw, refused 9", &[(Withdraw(41, 0, 7), 9, 0)]),
+        case("environment, fells 0", &[(Environment(1, 0), 0, 0)]),
+        case("invoke, none", &[(Invoke(41, 30), 0, 0)]),
+        case("effective, refused 12", &[(Effective(41, 3, 30), 12, 0)]),
+        case("chain, refused 12", &[(Chain(41, 3), 12, 0)]),
+    ]
+}
+
+fn on_workshop(scene: &Scene, size: &Size, tables: &str, falling: u16) -> Vec<Case> {
+    let (user, role) = size.deep_user();
+    let (manager, kind) = (size.manager(), size.kinds - 1);
+    let late_rule = 2 * manager + 1;
+    let appoint = (Appoint(LATE_USER, LATE_USER, kind), 0, 0);
+    let mut malformed = scene.clone();
+    *malformed.rights.last_mut().expect("there are rights") = 1024;
+    let mut unsound = scene.clone();
+    unsound.state[64 + 3 * scene.state[64] as usize] = 0;
+    let on = |scene: &Scene, name: &str, calls: &[(Call, u16, u16)]| case(name, tables, scene, calls);
+    let case = |name: &str, calls: &[(Call, u16, u16)]| on(scene, name, calls);
+    let falls = case(&format!("environment, fells {falling}"), &[(Environment(0, 0), 0, falling)]);
+    vec![
+        case("logout, then activate", &[(Logout(LATE_USER), 0, 1), (Activate(LATE_USER, manager), 0, late_rule)]),
+        case("withdraw, then appoint", &[(Withdraw(LATE_USER, kind, LATE_USER), 0, 0), appoint]),
+        case("revoke, then appoint", &[(Revoke(LATE_USER, LATE_USER, kind, LATE_USER), 0, 0), appoint]),
+        case("environment, fells 0", &[(Environment(40, 0), 0, 0)]),
+        Case { again: Again::Copied, ..falls },
+        case("invoke, by the last right", &[(Invoke(user, LAST_PRIVILEGE), 0, 1)]),
+        case("invoke, none", &[(Invoke(user, NO_PRIVILEGE), 0, 0)]),
+        case("effective, by the last right", &[(Effective(user, role, LAST_PRIVILEGE), 0, 1)]),
+        case("effective, none", &[(Effective(user, role, NO_PRIVILEGE), 0, 0)]),
+        case("chain", &[(Chain(user, role), 0, size.depth)]),
+        on(&malformed, "invoke, refused 1 for the last right", &[(Invoke(user, NO_PRIVILEGE), 1, 0)]),
+        on(&unsound, "invoke, refused 2 for the last row", &[(Invoke(user, NO_PRIVILEGE), 2, 0)]),
+        case("invoke, refused 3", &[(Invoke(4096, 0), 3, 0)]),
+        case("activate, refused 5", &[(Activate(LATE_USER, 1), 5, 0)]),
+    ]
+}
+
+/// The right that stands last in full tables is another's; so one user in all 256 roles asks for a privilege that none has.
+fn on_diamonds(full: &Scene) -> Result<Vec<Case>, String> {
+    let diamond = Scene::diamond(&[])?;
+    let with_rights = Scene::diamond(&full.rights)?;
+    let kinds = Scene::diamond_through_kinds()?;
+    Ok(vec![
+        case("effective, none", "diamond", &diamond, &[(Effective(0, 255, NO_PRIVILEGE), 0, 0)]),
+        case("effective, none", "diamond, kinds", &kinds, &[(Effective(0, 254, NO_PRIVILEGE), 0, 0)]),
+        case("effective, none", "diamond, full rights", &with_rights, &[(Effective(0, 255, NO_PRIVILEGE), 0, 0)]),
+        case("invoke, none", "diamond, full rights", &with_rights, &[(Invoke(0, NO_PRIVILEGE), 0, 0)]),
+        case("chain", "diamond", &diamond, &[(Chain(0, 255), 0, 256)]),
+    ])
+}
+
+fn on_growing(full: &Scene) -> Vec<Case> {
+    let (user, _) = FULL.deep_user();
+    let calls = [("invoke, none", Invoke(user, NO_PRIVILEGE)), ("environment, fells 0", Environment(40, 0))];
+    let sizes = [0, 32, 64, 128, 192, 256];
+    let each = calls.iter().flat_map(|call| sizes.map(|rows| (call, rows)));
+    each.map(|(&(name, call), rows)| case(name, &format!("{rows} rows"), &full.cut(rows), &[(call, 0, 0)])).collect()
+}
+
+/// Every case, in the order of the table.
+pub fn all() -> Result<Vec<Case>, String> {
+    let full = Scene::workshop(&FULL)?;
+    let mut cases = on_empty(&Scene::empty()?);
+    cases.extend(on_workshop(&Scene::workshop(&MIDDLE)?, &MIDDLE, "middle", 71));
+    cases.extend(on_workshop(&full, &FULL, "full", 248));
+    cases.extend(on_diamonds(&full)?);
+    cases.extend(on_growing(&full));
+    Ok(cases)
+}

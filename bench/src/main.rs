@@ -1,0 +1,47 @@
+//! What the engine's calls cost, side by side with an unverified engine; README.md says how to run it.
+
+#[cfg(test)]
+mod agree;
+mod call;
+mod case;
+mod cases;
+mod place;
+mod plain;
+mod programs;
+mod scene;
+mod table;
+
+/// The machine is not always equally quick, so every case is measured in several passes over all of them.
+const PASSES: usize = 8;
+
+fn measured(programs: &[String]) -> Result<Vec<table::Line>, String> {
+    let programs = match programs {
+        [] => None,
+        [terminal, second] => Some([terminal.as_str(), second]),
+        _ => return Err("usage: bench [--page] [TERMINAL SECOND]".to_string()),
+    };
+    let mut cases = cases::all()?.into_iter().map(case::Measured::new).collect::<Result<Vec<_>, _>>()?;
+    let mut sessions = if programs.is_some() { programs::all()? } else { Vec::new() };
+    if let Some(programs) = programs {
+        sessions.iter().try_for_each(|session| session.agree(programs))?;
+    }
+    for _ in 0..PASSES {
+        cases.iter_mut().for_each(case::Measured::pass);
+        if let Some(programs) = programs {
+            sessions.iter_mut().try_for_each(|session| session.pass(programs))?;
+        }
+    }
+    let lines = cases.iter().map(case::Measured::line);
+    Ok(lines.chain(sessions.iter().map(programs::Session::line)).collect())
+}
+
+fn main() {
+    let (options, programs): (Vec<String>, Vec<String>) = std::env::args().skip(1).partition(|word| word == "--page");
+    match measured(&programs) {
+        Ok(lines) => table::print(&lines, !options.is_empty()),
+        Err(why) => {
+            eprintln!("bench: {why}");
+            std::process::exit(1);
+        }
+    }
+}
