@@ -50,7 +50,11 @@ fn missing(world: &World, state: &[u16], user: u16, condition: u16) -> Option<Mi
             let row = &world.tables.kinds[KIND * usize::from(kind)..][..KIND];
             let prerequisites = &row[3..3 + usize::from(row[2])];
             let role = prerequisites.iter().find(|&&role| !is_active(role));
-            if stands { role.map(|&role| Missing::Role(role)) } else { Some(Missing::Certificate(kind)) }
+            if stands {
+                role.map(|&role| Missing::Role(role))
+            } else {
+                Some(Missing::Certificate(kind))
+            }
         }
         _ => (state[usize::from(condition - 384)] == 0).then_some(Missing::Fact(condition - 384)),
     }

@@ -26,9 +26,8 @@ pub enum Name {
 
 use Name::*;
 
-pub const NAMES: [Name; 10] = [
-    Fresh, Activate, Appoint, Revoke, Withdraw, Environment, Logout, Invoke, Effective, Chain,
-];
+pub const NAMES: [Name; 10] =
+    [Fresh, Activate, Appoint, Revoke, Withdraw, Environment, Logout, Invoke, Effective, Chain];
 
 impl Name {
     pub fn word(self) -> &'static str {

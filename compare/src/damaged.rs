@@ -3,7 +3,7 @@
 use crate::case::*;
 use crate::damage::{damage_state, damage_tables, wild};
 use crate::moves::{self, Mood};
-use crate::pair::{Failure, Pair};
+use crate::pair::{Failure, Outcome, Pair};
 use crate::random::Random;
 use crate::report::Counts;
 use crate::sessions::{guard, session};
@@ -26,7 +26,7 @@ pub struct Plan {
     pub times: usize,
 }
 
-pub fn run(plan: &Plan, seed: u64, part: u64, counts: &mut Counts) -> Result<(), Failure> {
+pub fn run(plan: &Plan, seed: u64, part: u64, counts: &mut Counts) -> Outcome<()> {
     for number in 0..plan.cases {
         stops::go_on();
         let mut random = Random::of(seed, part, number);
@@ -45,7 +45,7 @@ fn one(
     state: &[u16],
     target: Target,
     counts: &mut Counts,
-) -> Result<(), Failure> {
+) -> Outcome<()> {
     let mut case = Case {
         guard: guard(random),
         tables: world.tables.clone(),
@@ -69,7 +69,7 @@ fn one(
 }
 
 /// Runs the events of a case and counts the answers.
-pub fn counted(case: Case, counts: &mut Counts) -> Result<(), Failure> {
+pub fn counted(case: Case, counts: &mut Counts) -> Outcome<()> {
     let mut pair = Pair::new(&case.tables, &case.state, case.guard);
     for event in &case.events {
         match pair.step(event) {
@@ -81,7 +81,7 @@ pub fn counted(case: Case, counts: &mut Counts) -> Result<(), Failure> {
 }
 
 /// Numbers of no sense: tables and states of right and wrong lengths.
-pub fn run_noise(cases: u64, seed: u64, part: u64, counts: &mut Counts) -> Result<(), Failure> {
+pub fn run_noise(cases: u64, seed: u64, part: u64, counts: &mut Counts) -> Outcome<()> {
     stops::go_on();
     for number in 0..cases {
         let random = &mut Random::of(seed, part, number);

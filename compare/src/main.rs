@@ -23,6 +23,7 @@ mod teeth;
 mod texts;
 mod worlds;
 
+use case::Case;
 use pair::Failure;
 use report::{Counts, Report};
 use std::path::{Path, PathBuf};
@@ -30,6 +31,8 @@ use std::time::Instant;
 
 const SEED: u64 = 20_040_601;
 const TEXTS: u64 = 1_500;
+/// More events than are quickly read.
+const LONG: usize = 30;
 const LEAST_CALLS: u64 = 1_000_000;
 const USAGE: &str = "usage: compare [--seed N] PROGRAM
        compare --again LINE
@@ -77,11 +80,12 @@ fn all(program: &Path, seed: u64) -> i32 {
     let begun = Instant::now();
     let mut report = Report::default();
     let mut counts = Counts::default();
-    for (part, group) in (1..).zip(groups::groups()) {
+    for (part, group) in (1..).zip(groups::groups(1)) {
         let (before, calls) = (Instant::now(), counts.calls());
         let outcome = (group.run)(seed, part, &mut counts);
         let calls = counts.calls() - calls;
-        let name = format!("{}: {calls} calls, {:.1} s", group.name, before.elapsed().as_secs_f32());
+        let name =
+            format!("{}: {calls} calls, {:.1} s", group.name, before.elapsed().as_secs_f32());
         report.group(&name, outcome.is_ok());
         if let Err(failure) = outcome {
             show(&failure);
@@ -110,10 +114,21 @@ fn text_group(report: &mut Report, name: &str, outcome: Result<usize, String>) {
     }
 }
 
-/// Cuts the failing case down and prints it.
-pub fn show(failure: &Failure) {
+/// Cuts the failing case down and prints it. One that stays long is printed as
+/// its last event alone too.
+fn show(failure: &Failure) {
+    let case = show_cut(failure, &failure.case);
+    if failure.name == "calls" && case.events.len() > LONG {
+        if let Some(alone) = pair::alone(&case) {
+            println!("the last event alone:");
+            show_cut(failure, &alone);
+        }
+    }
+}
+
+fn show_cut(failure: &Failure, case: &Case) -> Case {
     stops::go_on();
-    let case = shrink::shrink(failure.test, &failure.case);
+    let case = shrink::shrink(failure.test, case);
     match (failure.test)(&case) {
         Some((at, what)) => println!("event {} of {}: {what}", at + 1, case.events.len()),
         None => println!("it failed once and then not again"),
@@ -122,6 +137,7 @@ pub fn show(failure: &Failure) {
         println!("as a session:\n{}", records.join("\n"));
     }
     println!("to run it again: --again '{}'", line::write(failure.name, &case));
+    case
 }
 
 /// Runs a case that was printed.

@@ -118,7 +118,17 @@ fn value(random: &mut Random, mood: Mood) -> u16 {
 fn kind(random: &mut Random, world: &World) -> u16 {
     let count = world.tables.kind_count() as u16;
     if count == 0 || random.once_in(ODD) {
-        return random.pick(&[0, 1, count.wrapping_sub(1), count, count + 1, 127, 128, 256, 65_535]);
+        return random.pick(&[
+            0,
+            1,
+            count.wrapping_sub(1),
+            count,
+            count + 1,
+            127,
+            128,
+            256,
+            65_535,
+        ]);
     }
     random.below(count.into()) as u16
 }

@@ -2,7 +2,7 @@
 
 use crate::case::*;
 use crate::moves::Mood;
-use crate::pair::{Failure, Pair};
+use crate::pair::{Failure, Outcome, Pair};
 use crate::random::Random;
 use crate::report::Counts;
 use crate::sessions::{guard, session};
@@ -17,7 +17,7 @@ pub struct Plan {
     pub lists: usize,
 }
 
-pub fn run(plan: &Plan, seed: u64, part: u64, counts: &mut Counts) -> Result<(), Failure> {
+pub fn run(plan: &Plan, seed: u64, part: u64, counts: &mut Counts) -> Outcome<()> {
     for number in 0..plan.states {
         stops::go_on();
         let mut random = Random::of(seed, part, number);
@@ -28,7 +28,7 @@ pub fn run(plan: &Plan, seed: u64, part: u64, counts: &mut Counts) -> Result<(),
             let (guard, tables) = (guard(&mut random), world.tables.clone());
             let case = Case { guard, tables, state: state.clone(), events };
             if judge(&case, counts).is_some() {
-                return Err(Failure { name: "orders", test: differ, case });
+                return Err(Box::new(Failure { name: "orders", test: differ, case }));
             }
         }
     }

@@ -100,6 +100,17 @@ pub fn calls_differ(case: &Case) -> Option<(usize, String)> {
     })
 }
 
+/// The event at which the two sides differ, alone, on the state before it.
+pub fn alone(case: &Case) -> Option<Case> {
+    let (at, _) = calls_differ(case)?;
+    let mut pair = Pair::new(&case.tables, &case.state, case.guard);
+    for event in &case.events[..at] {
+        pair.step(event).ok()?;
+    }
+    let (tables, state) = (case.tables.clone(), pair.state);
+    Some(Case { guard: case.guard, tables, state, events: vec![case.events[at].clone()] })
+}
+
 /// A case on which a test failed.
 pub struct Failure {
     pub name: &'static str,
@@ -107,8 +118,11 @@ pub struct Failure {
     pub case: Case,
 }
 
+/// What a group comes to.
+pub type Outcome<T> = Result<T, Box<Failure>>;
+
 impl Failure {
-    pub fn of_calls(case: Case) -> Failure {
-        Failure { name: "calls", test: calls_differ, case }
+    pub fn of_calls(case: Case) -> Box<Failure> {
+        Box::new(Failure { name: "calls", test: calls_differ, case })
     }
 }

@@ -2,7 +2,7 @@
 
 use crate::case::*;
 use crate::moves::{self, Mood};
-use crate::pair::{Failure, Pair};
+use crate::pair::{Failure, Outcome, Pair};
 use crate::random::Random;
 use crate::report::Counts;
 use crate::stops;
@@ -27,7 +27,7 @@ pub struct Plan {
     pub events: usize,
 }
 
-pub fn run(plan: &Plan, seed: u64, part: u64, counts: &mut Counts) -> Result<(), Failure> {
+pub fn run(plan: &Plan, seed: u64, part: u64, counts: &mut Counts) -> Outcome<()> {
     for number in 0..plan.sessions {
         stops::go_on();
         let mut random = Random::of(seed, part, number);
@@ -45,7 +45,7 @@ pub fn session(
     events: usize,
     mood: Option<Mood>,
     counts: &mut Counts,
-) -> Result<Vec<u16>, Failure> {
+) -> Outcome<Vec<u16>> {
     let guard = guard(random);
     let mut pair = Pair::new(&world.tables, &fresh_state(), guard);
     let mut so_far = Vec::with_capacity(events);

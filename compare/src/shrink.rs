@@ -1,10 +1,10 @@
 //! Cuts a failing case down: whatever can go while it still fails, goes.
 
 use crate::case::*;
-use crate::pair::Test;
+use crate::pair::{second_call, Test};
 use std::time::{Duration, Instant};
 
-const PATIENCE: Duration = Duration::from_secs(20);
+const PATIENCE: Duration = Duration::from_secs(10);
 
 struct Shrinker {
     test: Test,
@@ -15,6 +15,7 @@ struct Shrinker {
 pub fn shrink(test: Test, case: &Case) -> Case {
     let until = Instant::now() + PATIENCE;
     let mut shrinker = Shrinker { test, case: case.clone(), until };
+    shrinker.try_case(changes_only(case));
     loop {
         let before = shrinker.case.clone();
         shrinker.round();
@@ -40,24 +41,36 @@ impl Shrinker {
             shorter.events.truncate(at + 1);
             self.try_case(shorter);
         }
+        self.cut(
+            |case| case.tables.rights.len() / RIGHT,
+            |case, from, to| {
+                drop(case.tables.rights.drain(RIGHT * from..RIGHT * to));
+            },
+        );
         self.cut(|case| case.events.len(), |case, from, to| drop(case.events.drain(from..to)));
-        self.cut(|case| case.tables.rights.len() / RIGHT, |case, from, to| {
-            drop(case.tables.rights.drain(RIGHT * from..RIGHT * to));
-        });
         self.cut(|case| case.tables.rule_count(), cut_rules);
         self.cut(|case| case.tables.kind_count(), cut_kinds);
-        self.cut(|case| rows_after(&case.state, ROWS_AT).len(), |case, from, to| {
-            cut_rows(&mut case.state, ROWS_AT, from, to);
-        });
-        self.cut(|case| rows_after(&case.state, CERTIFICATES_AT).len(), |case, from, to| {
-            cut_rows(&mut case.state, CERTIFICATES_AT, from, to);
-        });
+        self.cut(
+            |case| rows_after(&case.state, ROWS_AT).len(),
+            |case, from, to| {
+                cut_rows(&mut case.state, ROWS_AT, from, to);
+            },
+        );
+        self.cut(
+            |case| rows_after(&case.state, CERTIFICATES_AT).len(),
+            |case, from, to| {
+                cut_rows(&mut case.state, CERTIFICATES_AT, from, to);
+            },
+        );
         self.cut(|case| case.tables.rule_count() * 8, cut_conditions);
         self.cut(|case| case.tables.kind_count() * 4, cut_prerequisites);
         self.cut(|case| case.state.len(), |case, from, to| case.state[from..to].fill(0));
-        self.cut(|case| case.events.len(), |case, from, to| {
-            case.events[from..to].iter_mut().for_each(|event| event.list.fill(0));
-        });
+        self.cut(
+            |case| case.events.len(),
+            |case, from, to| {
+                case.events[from..to].iter_mut().for_each(|event| event.list.fill(0));
+            },
+        );
         self.smaller_numbers();
     }
 
@@ -84,7 +97,7 @@ impl Shrinker {
                 for number in 0..2 {
                     let mut smaller = self.case.clone();
                     let place = &mut smaller.events[event].numbers[at];
-                    if *place <= number {
+                    if *place <= number || Instant::now() > self.until {
                         break;
                     }
                     *place = number;
@@ -95,6 +108,20 @@ impl Shrinker {
             }
         }
     }
+}
+
+/// The case without the events, but for the last, that change nothing.
+fn changes_only(case: &Case) -> Case {
+    let mut state = case.state.clone();
+    let mut shorter = Case { events: Vec::new(), ..case.clone() };
+    for (index, event) in case.events.iter().enumerate() {
+        let before = state.clone();
+        second_call(&case.tables, &mut state, event, &mut event.list.clone());
+        if state != before || index + 1 == case.events.len() {
+            shorter.events.push(event.clone());
+        }
+    }
+    shorter
 }
 
 /// The rules of the rows move with them; rows by a rule that goes, go.

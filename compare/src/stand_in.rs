@@ -154,7 +154,13 @@ type In = *const u16;
 type Out = *mut u16;
 
 /// Makes slices of what was lent, and does the faults outside them.
-unsafe fn given(name: Name, numbers: &[u16], t: [(In, usize); 3], s: (Out, usize), l: (Out, usize)) -> RawAnswer {
+unsafe fn given(
+    name: Name,
+    numbers: &[u16],
+    t: [(In, usize); 3],
+    s: (Out, usize),
+    l: (Out, usize),
+) -> RawAnswer {
     let [rules, kinds, rights] = t.map(|(at, count)| from_raw_parts(at, count).to_vec());
     let mut lent = Lent {
         tables: Tables { rules, kinds, rights },
@@ -204,7 +210,18 @@ stand_in!(adobethrum_effective, Effective, a, b, c);
 #[no_mangle]
 #[allow(clippy::too_many_arguments)]
 unsafe extern "C" fn adobethrum_chain(
-    r: In, rl: usize, k: In, kl: usize, p: In, pl: usize, s: Out, sl: usize, a: u16, b: u16, l: Out, ll: usize,
+    r: In,
+    rl: usize,
+    k: In,
+    kl: usize,
+    p: In,
+    pl: usize,
+    s: Out,
+    sl: usize,
+    a: u16,
+    b: u16,
+    l: Out,
+    ll: usize,
 ) -> RawAnswer {
     given(Name::Chain, &[a, b], [(r, rl), (k, kl), (p, pl)], (s, sl), (l, ll))
 }

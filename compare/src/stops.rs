@@ -55,7 +55,10 @@ extern "C" fn stopped(number: i32) {
             state: pair.state.clone(),
             events: vec![event.clone()],
         };
-        println!("in a call of the engine; to run it again: --again '{}'", line::write("calls", &case));
+        println!(
+            "in a call of the engine; to run it again: --again '{}'",
+            line::write("calls", &case)
+        );
     }
     println!("0 passed, 1 failed");
     unsafe { _exit(1) }

@@ -85,13 +85,48 @@ fn joined(random: &mut Random, records: &[String]) -> Vec<u8> {
 }
 
 const WORDS: [&str; 16] = [
-    "rule", "kind", "right", "activate", "appoint", "revoke", "withdraw", "env", "logout",
-    "invoke", "effective", "chain", "fresh", "Logout", "", "environment",
+    "rule",
+    "kind",
+    "right",
+    "activate",
+    "appoint",
+    "revoke",
+    "withdraw",
+    "env",
+    "logout",
+    "invoke",
+    "effective",
+    "chain",
+    "fresh",
+    "Logout",
+    "",
+    "environment",
 ];
 const FIELDS: [&str; 24] = [
-    "", "0", "1", "00", "01", "65535", "65536", "65537", "99999", "4294967296",
-    "18446744073709551617", "+1", "-1", " 1", "1 ", "1.0", "0x1", "a", "\"", "\"\"", "\"1", "1\"",
-    "\"1\"", "\"01\"",
+    "",
+    "0",
+    "1",
+    "00",
+    "01",
+    "65535",
+    "65536",
+    "65537",
+    "99999",
+    "4294967296",
+    "18446744073709551617",
+    "+1",
+    "-1",
+    " 1",
+    "1 ",
+    "1.0",
+    "0x1",
+    "a",
+    "\"",
+    "\"\"",
+    "\"1",
+    "1\"",
+    "\"1\"",
+    "\"01\"",
 ];
 
 /// One record: a field or the word replaced, a field more or less, a record
@@ -134,7 +169,11 @@ fn damage_bytes(random: &mut Random, text: &mut Vec<u8>) {
 /// The place of some CR, or the beginning.
 fn line_end(random: &mut Random, text: &[u8]) -> usize {
     let ends: Vec<usize> = (0..text.len()).filter(|&at| text[at] == b'\r').collect();
-    if ends.is_empty() { 0 } else { random.pick(&ends) }
+    if ends.is_empty() {
+        0
+    } else {
+        random.pick(&ends)
+    }
 }
 
 /// A text as long as may be, or a little longer or shorter.

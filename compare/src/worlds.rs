@@ -119,12 +119,14 @@ fn rule(random: &mut Random, world: &World, place: usize) -> [u16; RULE] {
     let m = if random.once_in(4) { random.below(n + 1) } else { n };
     let mut row = [0; RULE];
     row[..3].copy_from_slice(&[world.roles[place], n as u16, m as u16]);
-    for at in 3..3 + n {
-        row[at] = condition(random, world, place);
+    for listed in &mut row[3..3 + n] {
+        *listed = condition(random, world, place);
     }
     if ladder {
         row[2] = row[2].max(1);
-        let at = if random.once_in(8) { random.between(3, 2 + usize::from(row[2])) } else { 3 };
+        // With one user the chain goes down every rung, with two it may skip some.
+        let skips = world.users.len() > 1 && random.once_in(8);
+        let at = if skips { random.between(3, 2 + usize::from(row[2])) } else { 3 };
         row[at] = rung(random, world, place);
     }
     row
