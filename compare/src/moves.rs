@@ -25,12 +25,24 @@ fn weights(mood: Mood) -> [usize; 10] {
 
 pub fn event(random: &mut Random, world: &World, state: &[u16], mood: Mood) -> Event {
     if mood == Mood::Build && !random.once_in(3) {
+        if active_rows(state).len() == 256 && !random.once_in(8) {
+            return named_event(random, world, state, mood, Name::Appoint);
+        }
         if let Some(event) = next_step(random, world, state) {
             return event;
         }
     }
-    let name = NAMES[random.weighted(&weights(mood))];
+    let mut name = NAMES[random.weighted(&weights(mood))];
+    if empties_much(world, name) && !random.once_in(10) {
+        name = random.pick(&[Name::Activate, Name::Effective, Name::Chain]);
+    }
     named_event(random, world, state, mood, name)
+}
+
+/// What takes long to build up is emptied seldom.
+fn empties_much(world: &World, name: Name) -> bool {
+    let large = matches!(world.size, Size::Full | Size::Ladder);
+    large && (name == Name::Fresh || name == Name::Logout && world.users.len() == 1)
 }
 
 /// A step towards a role that somebody has not: on a ladder the next one up.
