@@ -204,8 +204,9 @@ fn held(random: &mut Random, world: &World, state: &[u16]) -> Vec<u16> {
     if rows.is_empty() || random.once_in(8) {
         return vec![user(random, world), role(random, world)];
     }
-    // Late rows rest on more.
-    let from = if random.once_in(2) { rows.len() / 2 } else { 0 };
-    let [user, role, _] = rows[random.between(from, rows.len() - 1)];
+    // Late rows rest on more, and the last may rest on all.
+    let last = rows.len() - 1;
+    let from = random.pick(&[0, 0, 0, last / 2, last / 2, last]);
+    let [user, role, _] = rows[random.between(from, last)];
     vec![user, role]
 }
