@@ -25,12 +25,24 @@ fn weights(mood: Mood) -> [usize; 10] {
 
 pub fn event(random: &mut Random, world: &World, state: &[u16], mood: Mood) -> Event {
     if mood == Mood::Build && !random.once_in(3) {
+        if active_rows(state).len() == 256 && !random.once_in(8) {
+            return named_event(random, world, state, mood, Name::Appoint);
+        }
         if let Some(event) = next_step(random, world, state) {
             return event;
         }
     }
-    let name = NAMES[random.weighted(&weights(mood))];
+    let mut name = NAMES[random.weighted(&weights(mood))];
+    if empties_much(world, name) && !random.once_in(10) {
+        name = random.pick(&[Name::Activate, Name::Effective, Name::Chain]);
+    }
     named_event(random, world, state, mood, name)
+}
+
+/// What takes long to build up is emptied seldom.
+fn empties_much(world: &World, name: Name) -> bool {
+    let large = matches!(world.size, Size::Full | Size::Ladder);
+    large && (name == Name::Fresh || name == Name::Logout && world.users.len() == 1)
 }
 
 /// A step towards a role that somebody has not: on a ladder the next one up.
@@ -192,8 +204,9 @@ fn held(random: &mut Random, world: &World, state: &[u16]) -> Vec<u16> {
     if rows.is_empty() || random.once_in(8) {
         return vec![user(random, world), role(random, world)];
     }
-    // Late rows rest on more.
-    let from = if random.once_in(2) { rows.len() / 2 } else { 0 };
-    let [user, role, _] = rows[random.between(from, rows.len() - 1)];
+    // Late rows rest on more, and the last may rest on all.
+    let last = rows.len() - 1;
+    let from = random.pick(&[0, 0, 0, last / 2, last / 2, last]);
+    let [user, role, _] = rows[random.between(from, last)];
     vec![user, role]
 }

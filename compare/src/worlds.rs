@@ -112,6 +112,7 @@ fn add_rules(random: &mut Random, world: &mut World) {
 fn rule(random: &mut Random, world: &World, place: usize) -> [u16; RULE] {
     let ladder = world.size == Size::Ladder && place > 0;
     let n = match random.weighted(&[5, 6, 5, 3, 1]) {
+        _ if world.size == Size::Ladder && place == 0 => 0,
         0 if !ladder => 0,
         4 => random.between(4, 8),
         n => n.max(1),
