@@ -1,0 +1,206 @@
+-- The blocks: which user has which, and what one mark more says.
+use Prim.Native.Nat.{ℕ, zero, suc, _+_, _*_, _-_, _/_, _%_, _≤_, _<_}
+use mathlib.Core.Path.{_≡_, refl, sym, ap, _∙_, subst, subst⁻¹}
+use mathlib.Core.Bool.{Bool, true, false, _&&_, _||_}
+use mathlib.Core.Logic.{_≢_, _⊎_, inl, inr}
+use mathlib.Core.List.{List, [], _∷_, _++_, List·Memᴰ}
+use native.Mathlib.Omega.{arith}
+use lib.Dec.{eqb}
+use lib.ListN.{length, getD, set, replicate, length-set}
+use lib.Seq.{getD-set-same, getD-set-other}
+use borrow.Author.Tests.{eq-eqb, ne-eqb}
+use Rattle.model.specs.Lists.{any}
+use Rattle.model.specs.Layout.{decode, rowCount, certificateCount, rowFrom, rowNumbers, certificateFrom, certificateNumbers}
+use Rattle.model.specs.Conditions.{isRow, active, someStands}
+use Rattle.model.specs.declared.Row.{Row}
+use Rattle.model.specs.declared.Certificate.{Certificate}
+use Rattle.model.proofs.Tests.{any-append}
+use Rattle.table.specs.Entries.{rowAt, firstRows, certificateAt, firstCertificates, Sized}
+use Rattle.table.proofs.Entries.{entry-member}
+use Rattle.marks.specs.Marks.{bit, marked, Marked}
+use Rattle.marks.proofs.Bits.{eq-or-ne}
+use Rattle.index.specs.Marked.{Room, block}
+use Rattle.index.specs.Indexed.{InRange, baseOf, Apart, Numbered, Indexed}
+use Rattle.index.proofs.Holding.{Says}
+
+-- ── ranges, by places ──
+
+pub row-in-range : (s : List ℕ) → InRange s → (i : ℕ) → i < rowCount s → (rowAt s i .user < 4096) × (rowAt s i .role < 256)
+unfolding decode rowAt
+row-in-range s r i h = r .rows (rowAt s i) (entry-member rowFrom 3 (rowNumbers s) (rowCount s) i h)
+
+pub certificate-in-range : (s : List ℕ) → InRange s → (i : ℕ) → i < certificateCount s → (certificateAt s i .appointee < 4096) × (certificateAt s i .kind < 128)
+unfolding decode certificateAt
+certificate-in-range s r i h = r .certificates (certificateAt s i) (entry-member certificateFrom 3 (certificateNumbers s) (certificateCount s) i h)
+
+-- ── numbers ──
+
+getD-zeros : (n i : ℕ) → getD (replicate n 0) i 0 ≡ 0
+getD-zeros zero i = refl
+getD-zeros (suc n) zero = refl
+getD-zeros (suc n) (suc i) = getD-zeros n i
+
+length-zeros : (n : ℕ) → length (replicate n 0) ≡ n
+length-zeros zero = refl
+length-zeros (suc n) = ap suc (length-zeros n)
+
+-- the first i rows have given their users numbers
+pub record Numbering (s numbers : List ℕ) (i : ℕ) : Type 0 where
+  pub size : length numbers ≡ 4096
+  pub owner : (u : ℕ) → 0 < getD numbers u 0 → (getD numbers u 0 ≤ i) × (rowAt s (getD numbers u 0 - 1) .user ≡ u)
+  pub known : (j : ℕ) → j < i → 0 < getD numbers (rowAt s j .user) 0
+
+pub numbering-start : (s : List ℕ) → Numbering s (replicate 4096 0) 0
+numbering-start s = record { size = length-zeros 4096; owner = λ u h. absurd (omega (arith, getD-zeros 4096 u)); known = λ j h. absurd (omega arith) }
+
+pub numbering-on : (s numbers : List ℕ) (i v : ℕ) → v ≡ rowAt s i .user → v < 4096 → Numbering s numbers i → Numbering s (set numbers v (i + 1)) (i + 1)
+numbering-on s numbers i v e h n = record { size = length-set numbers v (i + 1) ∙ n .size; owner = owner; known = known }
+  where
+    same : getD (set numbers v (i + 1)) v 0 ≡ i + 1
+    same = getD-set-same numbers v (i + 1) 0 (omega (arith, n .size))
+
+    owner : (u : ℕ) → 0 < getD (set numbers v (i + 1)) u 0 → (getD (set numbers v (i + 1)) u 0 ≤ i + 1) × (rowAt s (getD (set numbers v (i + 1)) u 0 - 1) .user ≡ u)
+    owner u = go (eq-or-ne u v)
+      where
+        go : (u ≡ v) ⊎ (u ≢ v) → 0 < getD (set numbers v (i + 1)) u 0 → (getD (set numbers v (i + 1)) u 0 ≤ i + 1) × (rowAt s (getD (set numbers v (i + 1)) u 0 - 1) .user ≡ u)
+        go (inl q) p =
+            let a : getD (set numbers v (i + 1)) u 0 ≡ i + 1 = ap (λ (x : ℕ). getD (set numbers v (i + 1)) x 0) q ∙ same in
+            let b : getD (set numbers v (i + 1)) u 0 - 1 ≡ i = omega (arith, a) in
+            (omega (arith, a), ap (λ (x : ℕ). rowAt s x .user) b ∙ sym e ∙ sym q)
+        go (inr q) p =
+            let a : getD (set numbers v (i + 1)) u 0 ≡ getD numbers u 0 = getD-set-other numbers v u (i + 1) 0 q in
+            let o = n .owner u (omega (arith, a)) in
+            (omega (arith, a, o .0), ap (λ (x : ℕ). rowAt s (x - 1) .user) a ∙ o .1)
+
+    known : (j : ℕ) → j < i + 1 → 0 < getD (set numbers v (i + 1)) (rowAt s j .user) 0
+    known j m = go (eq-or-ne (rowAt s j .user) v) (eq-or-ne j i)
+      where
+        go : (rowAt s j .user ≡ v) ⊎ (rowAt s j .user ≢ v) → (j ≡ i) ⊎ (j ≢ i) → 0 < getD (set numbers v (i + 1)) (rowAt s j .user) 0
+        go (inl q) d = omega (arith, ap (λ (x : ℕ). getD (set numbers v (i + 1)) x 0) q ∙ same)
+        go (inr q) (inl d) = absurd (q (ap (λ (x : ℕ). rowAt s x .user) d ∙ sym e))
+        go (inr q) (inr d) = omega (arith, getD-set-other numbers v (rowAt s j .user) (i + 1) 0 q, n .known j (omega (arith, d)))
+
+pub numbering-end : (s numbers : List ℕ) → rowCount s ≤ 256 → Numbering s numbers (rowCount s) → Numbered s numbers
+numbering-end s numbers few n =
+    record {
+      size = n .size;
+      apart = λ u v h e. sym (n .owner u h .1) ∙ ap (λ (x : ℕ). rowAt s (x - 1) .user) e ∙ n .owner v (omega (arith, e)) .1;
+      most = most;
+      known = n .known;
+    }
+  where
+    most : (u : ℕ) → getD numbers u 0 ≤ 256
+    most u = go (getD numbers u 0) refl
+      where
+        go : (x : ℕ) → getD numbers u 0 ≡ x → getD numbers u 0 ≤ 256
+        go zero e = omega (arith, e)
+        go (suc x) e = omega (arith, n .owner u (omega (arith, e)) .0)
+
+-- ── marks ──
+
+nothing-marked : (n x : ℕ) → marked (replicate n 0) x ≡ false
+unfolding marked
+nothing-marked n x = ap (λ (w : ℕ). bit w (x % 16)) (getD-zeros n (x / 16)) ∙ none (x % 16)
+  where
+    none : (j : ℕ) → bit 0 j ≡ false
+    none j = ap (λ (n : ℕ). eqb (n % 2) 1) (native.Mathlib.Nat.zero-div (2 Prim.Native.Nat.^ j))
+
+-- no row and no certificate is entered
+pub indexed-none : (numbers : List ℕ) (n : ℕ) → length numbers ≡ 4096 → Apart numbers → ((u : ℕ) → Room (replicate n 0) (baseOf numbers u)) → Indexed numbers (replicate n 0) [] []
+unfolding active someStands
+indexed-none numbers n size apart room =
+    record {
+      size = size;
+      apart = apart;
+      room = room;
+      roles-marked = λ u q h l. nothing-marked n (baseOf numbers u + q);
+      kinds-marked = λ u k h l. nothing-marked n (baseOf numbers u + (256 + k));
+      beyond = λ u q l. refl;
+    }
+
+-- all users of a state have a number, and 257 blocks
+pub indexed-state : (s numbers : List ℕ) → Numbered s numbers → Indexed numbers (replicate 6168 0) [] []
+indexed-state s numbers n = indexed-none numbers 6168 (n .size) (n .apart) (λ u. record { inside = omega (arith, n .most u, length-zeros 6168); most = omega (arith, n .most u) })
+
+-- one user has a number, and two blocks
+pub indexed-user : (v : ℕ) → v < 4096 → Indexed (set (replicate 4096 0) v 1) (replicate 48 0) [] []
+indexed-user v h = indexed-none (set (replicate 4096 0) v 1) 48 (length-set (replicate 4096 0) v 1 ∙ length-zeros 4096) apart room
+  where
+    number : (u : ℕ) → ((u ≡ v) × (getD (set (replicate 4096 0) v 1) u 0 ≡ 1)) ⊎ (getD (set (replicate 4096 0) v 1) u 0 ≡ 0)
+    number u = go (eq-or-ne u v)
+      where
+        go : (u ≡ v) ⊎ (u ≢ v) → ((u ≡ v) × (getD (set (replicate 4096 0) v 1) u 0 ≡ 1)) ⊎ (getD (set (replicate 4096 0) v 1) u 0 ≡ 0)
+        go (inl q) = inl (q, ap (λ (x : ℕ). getD (set (replicate 4096 0) v 1) x 0) q ∙ getD-set-same (replicate 4096 0) v 1 0 (omega (arith, length-zeros 4096)))
+        go (inr q) = inr (getD-set-other (replicate 4096 0) v u 1 0 q ∙ getD-zeros 4096 u)
+
+    apart : Apart (set (replicate 4096 0) v 1)
+    apart u w p e = go (number u) (number w)
+      where
+        go : ((u ≡ v) × (getD (set (replicate 4096 0) v 1) u 0 ≡ 1)) ⊎ (getD (set (replicate 4096 0) v 1) u 0 ≡ 0)
+            → ((w ≡ v) × (getD (set (replicate 4096 0) v 1) w 0 ≡ 1)) ⊎ (getD (set (replicate 4096 0) v 1) w 0 ≡ 0) → u ≡ w
+        go (inl a) (inl b) = a .0 ∙ sym (b .0)
+        go (inl a) (inr b) = absurd (omega (arith, a .1, b, e))
+        go (inr a) b = absurd (omega (arith, a, p))
+
+    room : (u : ℕ) → Room (replicate 48 0) (baseOf (set (replicate 4096 0) v 1) u)
+    room u = go (number u)
+      where
+        go : ((u ≡ v) × (getD (set (replicate 4096 0) v 1) u 0 ≡ 1)) ⊎ (getD (set (replicate 4096 0) v 1) u 0 ≡ 0) → Room (replicate 48 0) (baseOf (set (replicate 4096 0) v 1) u)
+        go (inl a) = record { inside = omega (arith, a .1, length-zeros 48); most = omega (arith, a .1) }
+        go (inr a) = record { inside = omega (arith, a, length-zeros 48); most = omega (arith, a) }
+
+pub says : (numbers words : List ℕ) (rows : List Row) (certificates : List Certificate) → Indexed numbers words rows certificates → (u : ℕ) → 0 < getD numbers u 0 → Says (block words (baseOf numbers u)) rows certificates u
+says numbers words rows certificates x u h = record { roles-said = λ q l. x .roles-marked u q h l; kinds-said = λ k l. x .kinds-marked u k h l; beyond = x .beyond u }
+
+module _ (numbers words : List ℕ) (rows : List Row) (certificates : List Certificate) (x : Indexed numbers words rows certificates) where
+  -- two places of two blocks are the same only for the same user
+  same-place : (u v q p : ℕ) → 0 < getD numbers u 0 → q < 384 → p < 384 → eqb (baseOf numbers u + q) (baseOf numbers v + p) ≡ (eqb v u && eqb p q)
+  same-place u v q p h l m = go (eq-or-ne (baseOf numbers u + q) (baseOf numbers v + p))
+    where
+      go : (baseOf numbers u + q ≡ baseOf numbers v + p) ⊎ (baseOf numbers u + q ≢ baseOf numbers v + p) → eqb (baseOf numbers u + q) (baseOf numbers v + p) ≡ (eqb v u && eqb p q)
+      go (inl e) =
+          let a : getD numbers u 0 ≡ getD numbers v 0 = omega (arith, e) in
+          let b : p ≡ q = omega (arith, e) in
+          eq-eqb (baseOf numbers u + q) (baseOf numbers v + p) e ∙ (λ i. eq-eqb v u (sym (x .apart u v h a)) (~ i) && eq-eqb p q b (~ i))
+      go (inr e) = ne-eqb (baseOf numbers u + q) (baseOf numbers v + p) e ∙ sym (differ (eq-or-ne v u) (eq-or-ne p q))
+        where
+          differ : (v ≡ u) ⊎ (v ≢ u) → (p ≡ q) ⊎ (p ≢ q) → (eqb v u && eqb p q) ≡ false
+          differ (inl a) (inl b) = absurd (e (λ i. baseOf numbers (a (~ i)) + b (~ i)))
+          differ (inl a) (inr b) = (λ i. eq-eqb v u a i && ne-eqb p q b i)
+          differ (inr a) d = ap (λ (y : Bool). y && eqb p q) (ne-eqb v u a)
+
+  or-last : (a b : Bool) → (b || a) ≡ (a || (b || false))
+  or-last true true = refl
+  or-last true false = refl
+  or-last false true = refl
+  or-last false false = refl
+
+  off : (a : Bool) → (a && false) ≡ false
+  off true = refl
+  off false = refl
+
+  -- one row more is entered
+  pub row-entered : (words′ : List ℕ) (r : Row) → r .role < 256 → Marked words words′ (baseOf numbers (r .user) + r .role) → Indexed numbers words′ (rows ++ (r ∷ [])) certificates
+  unfolding active
+  row-entered words′ r l m =
+      record {
+        size = x .size;
+        apart = x .apart;
+        room = λ u. subst⁻¹ (λ (n : ℕ). Sits n u) (m .size) (x .room u);
+        roles-marked = λ u q h k.
+            m .marks (baseOf numbers u + q)
+            ∙ (λ i. same-place u (r .user) q (r .role) h (omega arith) (omega arith) i || x .roles-marked u q h k i)
+            ∙ or-last (active rows u q) (isRow u q r)
+            ∙ sym (any-append (isRow u q) rows (r ∷ []));
+        kinds-marked = λ u k h j.
+            m .marks (baseOf numbers u + (256 + k))
+            ∙ ap (λ (b : Bool). b || marked words (baseOf numbers u + (256 + k))) (same-place u (r .user) (256 + k) (r .role) h (omega arith) (omega arith) ∙ ap (λ (b : Bool). eqb (r .user) u && b) (ne-eqb (r .role) (256 + k) (λ e. omega (arith, e))) ∙ off (eqb (r .user) u))
+            ∙ x .kinds-marked u k h j;
+        beyond = λ u q k. any-append (isRow u q) rows (r ∷ []) ∙ (λ i. x .beyond u q k i || (out u q k i || false));
+      }
+    where
+      abbrev Sits : ℕ → ℕ → Type 0
+      Sits n u = Room words (baseOf numbers u)
+
+      out : (u q : ℕ) → 256 ≤ q → isRow u q r ≡ false
+      out u q k = ap (λ (b : Bool). eqb (r .user) u && b) (ne-eqb (r .role) q (λ e. omega (arith, e))) ∙ off (eqb (r .user) u)
