@@ -1,10 +1,11 @@
 -- The blocks: which user has which, and what one mark more says.
-use Prim.Native.Nat.{ℕ, zero, suc, _+_, _*_, _-_, _/_, _%_, _≤_, _<_}
+use Prim.Native.Nat.{ℕ, zero, suc, _+_, _*_, _-_, _/_, _%_, _^_, _≤_, _<_}
 use mathlib.Core.Path.{_≡_, refl, sym, ap, _∙_, subst, subst⁻¹}
 use mathlib.Core.Bool.{Bool, true, false, _&&_, _||_}
 use mathlib.Core.Logic.{_≢_, _⊎_, inl, inr}
 use mathlib.Core.List.{List, [], _∷_, _++_, List·Memᴰ}
 use native.Mathlib.Omega.{arith}
+use native.Mathlib.Nat.{zero-div}
 use lib.Dec.{eqb}
 use lib.ListN.{length, getD, set, replicate, length-set}
 use lib.Seq.{getD-set-same, getD-set-other}
@@ -16,7 +17,7 @@ use Rattle.model.specs.declared.Row.{Row}
 use Rattle.model.specs.declared.Certificate.{Certificate}
 use Rattle.model.proofs.Tests.{any-append}
 use Rattle.table.specs.Entries.{rowAt, firstRows, certificateAt, firstCertificates, Sized}
-use Rattle.table.proofs.Entries.{entry-member}
+use Rattle.table.proofs.Entries.{entry-member, entries-more}
 use Rattle.marks.specs.Marks.{bit, marked, Marked}
 use Rattle.marks.proofs.Bits.{eq-or-ne}
 use Rattle.index.specs.Marked.{Room, block}
@@ -35,12 +36,15 @@ certificate-in-range s r i h = r .certificates (certificateAt s i) (entry-member
 
 -- ── numbers ──
 
-getD-zeros : (n i : ℕ) → getD (replicate n 0) i 0 ≡ 0
+abbrev pub zeros : ℕ → List ℕ
+zeros n = replicate n 0
+
+getD-zeros : (n i : ℕ) → getD (zeros n) i 0 ≡ 0
 getD-zeros zero i = refl
 getD-zeros (suc n) zero = refl
 getD-zeros (suc n) (suc i) = getD-zeros n i
 
-length-zeros : (n : ℕ) → length (replicate n 0) ≡ n
+length-zeros : (n : ℕ) → length (zeros n) ≡ n
 length-zeros zero = refl
 length-zeros (suc n) = ap suc (length-zeros n)
 
@@ -50,7 +54,7 @@ pub record Numbering (s numbers : List ℕ) (i : ℕ) : Type 0 where
   pub owner : (u : ℕ) → 0 < getD numbers u 0 → (getD numbers u 0 ≤ i) × (rowAt s (getD numbers u 0 - 1) .user ≡ u)
   pub known : (j : ℕ) → j < i → 0 < getD numbers (rowAt s j .user) 0
 
-pub numbering-start : (s : List ℕ) → Numbering s (replicate 4096 0) 0
+pub numbering-start : (s : List ℕ) → Numbering s (zeros 4096) 0
 numbering-start s = record { size = length-zeros 4096; owner = λ u h. absurd (omega (arith, getD-zeros 4096 u)); known = λ j h. absurd (omega arith) }
 
 pub numbering-on : (s numbers : List ℕ) (i v : ℕ) → v ≡ rowAt s i .user → v < 4096 → Numbering s numbers i → Numbering s (set numbers v (i + 1)) (i + 1)
@@ -98,15 +102,15 @@ numbering-end s numbers few n =
 
 -- ── marks ──
 
-nothing-marked : (n x : ℕ) → marked (replicate n 0) x ≡ false
+nothing-marked : (n x : ℕ) → marked (zeros n) x ≡ false
 unfolding marked
 nothing-marked n x = ap (λ (w : ℕ). bit w (x % 16)) (getD-zeros n (x / 16)) ∙ none (x % 16)
   where
     none : (j : ℕ) → bit 0 j ≡ false
-    none j = ap (λ (n : ℕ). eqb (n % 2) 1) (native.Mathlib.Nat.zero-div (2 Prim.Native.Nat.^ j))
+    none j = ap (λ (n : ℕ). eqb (n % 2) 1) (zero-div (2 ^ j))
 
 -- no row and no certificate is entered
-pub indexed-none : (numbers : List ℕ) (n : ℕ) → length numbers ≡ 4096 → Apart numbers → ((u : ℕ) → Room (replicate n 0) (baseOf numbers u)) → Indexed numbers (replicate n 0) [] []
+pub indexed-none : (numbers : List ℕ) (n : ℕ) → length numbers ≡ 4096 → Apart numbers → ((u : ℕ) → Room (zeros n) (baseOf numbers u)) → Indexed numbers (zeros n) [] []
 unfolding active someStands
 indexed-none numbers n size apart room =
     record {
@@ -119,38 +123,41 @@ indexed-none numbers n size apart room =
     }
 
 -- all users of a state have a number, and 257 blocks
-pub indexed-state : (s numbers : List ℕ) → Numbered s numbers → Indexed numbers (replicate 6168 0) [] []
+pub indexed-state : (s numbers : List ℕ) → Numbered s numbers → Indexed numbers (zeros 6168) [] []
 indexed-state s numbers n = indexed-none numbers 6168 (n .size) (n .apart) (λ u. record { inside = omega (arith, n .most u, length-zeros 6168); most = omega (arith, n .most u) })
 
 -- one user has a number, and two blocks
-pub indexed-user : (v : ℕ) → v < 4096 → Indexed (set (replicate 4096 0) v 1) (replicate 48 0) [] []
-indexed-user v h = indexed-none (set (replicate 4096 0) v 1) 48 (length-set (replicate 4096 0) v 1 ∙ length-zeros 4096) apart room
+pub indexed-user : (v : ℕ) → v < 4096 → Indexed (set (zeros 4096) v 1) (zeros 48) [] []
+indexed-user v h = indexed-none (set (zeros 4096) v 1) 48 (length-set (zeros 4096) v 1 ∙ length-zeros 4096) apart room
   where
-    number : (u : ℕ) → ((u ≡ v) × (getD (set (replicate 4096 0) v 1) u 0 ≡ 1)) ⊎ (getD (set (replicate 4096 0) v 1) u 0 ≡ 0)
+    number : (u : ℕ) → ((u ≡ v) × (getD (set (zeros 4096) v 1) u 0 ≡ 1)) ⊎ (getD (set (zeros 4096) v 1) u 0 ≡ 0)
     number u = go (eq-or-ne u v)
       where
-        go : (u ≡ v) ⊎ (u ≢ v) → ((u ≡ v) × (getD (set (replicate 4096 0) v 1) u 0 ≡ 1)) ⊎ (getD (set (replicate 4096 0) v 1) u 0 ≡ 0)
-        go (inl q) = inl (q, ap (λ (x : ℕ). getD (set (replicate 4096 0) v 1) x 0) q ∙ getD-set-same (replicate 4096 0) v 1 0 (omega (arith, length-zeros 4096)))
-        go (inr q) = inr (getD-set-other (replicate 4096 0) v u 1 0 q ∙ getD-zeros 4096 u)
+        go : (u ≡ v) ⊎ (u ≢ v) → ((u ≡ v) × (getD (set (zeros 4096) v 1) u 0 ≡ 1)) ⊎ (getD (set (zeros 4096) v 1) u 0 ≡ 0)
+        go (inl q) = inl (q, ap (λ (x : ℕ). getD (set (zeros 4096) v 1) x 0) q ∙ getD-set-same (zeros 4096) v 1 0 (omega (arith, length-zeros 4096)))
+        go (inr q) = inr (getD-set-other (zeros 4096) v u 1 0 q ∙ getD-zeros 4096 u)
 
-    apart : Apart (set (replicate 4096 0) v 1)
+    apart : Apart (set (zeros 4096) v 1)
     apart u w p e = go (number u) (number w)
       where
-        go : ((u ≡ v) × (getD (set (replicate 4096 0) v 1) u 0 ≡ 1)) ⊎ (getD (set (replicate 4096 0) v 1) u 0 ≡ 0)
-            → ((w ≡ v) × (getD (set (replicate 4096 0) v 1) w 0 ≡ 1)) ⊎ (getD (set (replicate 4096 0) v 1) w 0 ≡ 0) → u ≡ w
+        go : ((u ≡ v) × (getD (set (zeros 4096) v 1) u 0 ≡ 1)) ⊎ (getD (set (zeros 4096) v 1) u 0 ≡ 0)
+            → ((w ≡ v) × (getD (set (zeros 4096) v 1) w 0 ≡ 1)) ⊎ (getD (set (zeros 4096) v 1) w 0 ≡ 0) → u ≡ w
         go (inl a) (inl b) = a .0 ∙ sym (b .0)
         go (inl a) (inr b) = absurd (omega (arith, a .1, b, e))
         go (inr a) b = absurd (omega (arith, a, p))
 
-    room : (u : ℕ) → Room (replicate 48 0) (baseOf (set (replicate 4096 0) v 1) u)
+    room : (u : ℕ) → Room (zeros 48) (baseOf (set (zeros 4096) v 1) u)
     room u = go (number u)
       where
-        go : ((u ≡ v) × (getD (set (replicate 4096 0) v 1) u 0 ≡ 1)) ⊎ (getD (set (replicate 4096 0) v 1) u 0 ≡ 0) → Room (replicate 48 0) (baseOf (set (replicate 4096 0) v 1) u)
+        go : ((u ≡ v) × (getD (set (zeros 4096) v 1) u 0 ≡ 1)) ⊎ (getD (set (zeros 4096) v 1) u 0 ≡ 0) → Room (zeros 48) (baseOf (set (zeros 4096) v 1) u)
         go (inl a) = record { inside = omega (arith, a .1, length-zeros 48); most = omega (arith, a .1) }
         go (inr a) = record { inside = omega (arith, a, length-zeros 48); most = omega (arith, a) }
 
 pub says : (numbers words : List ℕ) (rows : List Row) (certificates : List Certificate) → Indexed numbers words rows certificates → (u : ℕ) → 0 < getD numbers u 0 → Says (block words (baseOf numbers u)) rows certificates u
 says numbers words rows certificates x u h = record { roles-said = λ q l. x .roles-marked u q h l; kinds-said = λ k l. x .kinds-marked u k h l; beyond = x .beyond u }
+
+same-room : (words words′ : List ℕ) (base : ℕ) → length words′ ≡ length words → Room words base → Room words′ base
+same-room words words′ base e r = record { inside = omega (arith, e, r .inside); most = r .most }
 
 module _ (numbers words : List ℕ) (rows : List Row) (certificates : List Certificate) (x : Indexed numbers words rows certificates) where
   -- two places of two blocks are the same only for the same user
@@ -161,11 +168,11 @@ module _ (numbers words : List ℕ) (rows : List Row) (certificates : List Certi
       go (inl e) =
           let a : getD numbers u 0 ≡ getD numbers v 0 = omega (arith, e) in
           let b : p ≡ q = omega (arith, e) in
-          eq-eqb (baseOf numbers u + q) (baseOf numbers v + p) e ∙ (λ i. eq-eqb v u (sym (x .apart u v h a)) (~ i) && eq-eqb p q b (~ i))
+          eq-eqb (baseOf numbers u + q) (baseOf numbers v + p) e ∙ sym (λ i. eq-eqb v u (sym (x .apart u v h a)) i && eq-eqb p q b i)
       go (inr e) = ne-eqb (baseOf numbers u + q) (baseOf numbers v + p) e ∙ sym (differ (eq-or-ne v u) (eq-or-ne p q))
         where
           differ : (v ≡ u) ⊎ (v ≢ u) → (p ≡ q) ⊎ (p ≢ q) → (eqb v u && eqb p q) ≡ false
-          differ (inl a) (inl b) = absurd (e (λ i. baseOf numbers (a (~ i)) + b (~ i)))
+          differ (inl a) (inl b) = absurd (e (sym (λ i. baseOf numbers (a i) + b i)))
           differ (inl a) (inr b) = (λ i. eq-eqb v u a i && ne-eqb p q b i)
           differ (inr a) d = ap (λ (y : Bool). y && eqb p q) (ne-eqb v u a)
 
@@ -186,7 +193,7 @@ module _ (numbers words : List ℕ) (rows : List Row) (certificates : List Certi
       record {
         size = x .size;
         apart = x .apart;
-        room = λ u. subst⁻¹ (λ (n : ℕ). Sits n u) (m .size) (x .room u);
+        room = λ u. same-room words words′ (baseOf numbers u) (m .size) (x .room u);
         roles-marked = λ u q h k.
             m .marks (baseOf numbers u + q)
             ∙ (λ i. same-place u (r .user) q (r .role) h (omega arith) (omega arith) i || x .roles-marked u q h k i)
@@ -199,8 +206,47 @@ module _ (numbers words : List ℕ) (rows : List Row) (certificates : List Certi
         beyond = λ u q k. any-append (isRow u q) rows (r ∷ []) ∙ (λ i. x .beyond u q k i || (out u q k i || false));
       }
     where
-      abbrev Sits : ℕ → ℕ → Type 0
-      Sits n u = Room words (baseOf numbers u)
-
       out : (u q : ℕ) → 256 ≤ q → isRow u q r ≡ false
       out u q k = ap (λ (b : Bool). eqb (r .user) u && b) (ne-eqb (r .role) q (λ e. omega (arith, e))) ∙ off (eqb (r .user) u)
+
+  -- one certificate more is entered
+  pub certificate-entered : (words′ : List ℕ) (c : Certificate) → c .kind < 128 → Marked words words′ (baseOf numbers (c .appointee) + (256 + c .kind)) → Indexed numbers words′ rows (certificates ++ (c ∷ []))
+  unfolding someStands
+  certificate-entered words′ c l m =
+      record {
+        size = x .size;
+        apart = x .apart;
+        room = λ u. same-room words words′ (baseOf numbers u) (m .size) (x .room u);
+        roles-marked = λ u q h k.
+            m .marks (baseOf numbers u + q)
+            ∙ ap (λ (b : Bool). b || marked words (baseOf numbers u + q)) (same-place u (c .appointee) q (256 + c .kind) h (omega arith) (omega arith) ∙ ap (λ (b : Bool). eqb (c .appointee) u && b) (ne-eqb (256 + c .kind) q (λ e. omega (arith, e))) ∙ off (eqb (c .appointee) u))
+            ∙ x .roles-marked u q h k;
+        kinds-marked = λ u k h j.
+            m .marks (baseOf numbers u + (256 + k))
+            ∙ (λ i. (same-place u (c .appointee) (256 + k) (256 + c .kind) h (omega arith) (omega arith) ∙ ap (λ (b : Bool). eqb (c .appointee) u && b) (same-kind (c .kind) k)) i || x .kinds-marked u k h j i)
+            ∙ or-last (someStands certificates u k) (eqb (c .appointee) u && eqb (c .kind) k)
+            ∙ sym (any-append (λ (d : Certificate). eqb (d .appointee) u && eqb (d .kind) k) certificates (c ∷ []));
+        beyond = x .beyond;
+      }
+    where
+      same-kind : (a b : ℕ) → eqb (256 + a) (256 + b) ≡ eqb a b
+      same-kind a b = go (eq-or-ne a b)
+        where
+          go : (a ≡ b) ⊎ (a ≢ b) → eqb (256 + a) (256 + b) ≡ eqb a b
+          go (inl e) = eq-eqb (256 + a) (256 + b) (ap (λ (n : ℕ). 256 + n) e) ∙ sym (eq-eqb a b e)
+          go (inr e) = ne-eqb (256 + a) (256 + b) (λ q. e (omega (arith, q))) ∙ sym (ne-eqb a b e)
+
+-- ── the loops over a state's tables ──
+
+module _ (s numbers words words′ : List ℕ) (i base k : ℕ) (range : InRange s) where
+  pub certificates-on : (rows : List Row) (c : Certificate) → i < certificateCount s → c ≡ certificateAt s i → base ≡ baseOf numbers (c .appointee) → k ≡ c .kind → Indexed numbers words rows (firstCertificates s i) → Marked words words′ (base + (256 + k)) → Indexed numbers words′ rows (firstCertificates s (i + 1))
+  unfolding firstCertificates certificateAt
+  certificates-on rows c h e b q x m =
+      subst⁻¹ (λ (l : List Certificate). Indexed numbers words′ rows l) (entries-more certificateFrom 3 (certificateNumbers s) i ∙ ap (λ (d : Certificate). firstCertificates s i ++ (d ∷ [])) (sym e))
+      (certificate-entered numbers words rows (firstCertificates s i) x words′ c (subst⁻¹ (λ (d : Certificate). d .kind < 128) e (certificate-in-range s range i h .1)) (subst (λ (n : ℕ). Marked words words′ n) (λ j. b j + (256 + q j)) m))
+
+  pub rows-on : (certificates : List Certificate) (r : Row) → i < rowCount s → r ≡ rowAt s i → base ≡ baseOf numbers (r .user) → k ≡ r .role → Indexed numbers words (firstRows s i) certificates → Marked words words′ (base + k) → Indexed numbers words′ (firstRows s (i + 1)) certificates
+  unfolding firstRows rowAt
+  rows-on certificates r h e b q x m =
+      subst⁻¹ (λ (l : List Row). Indexed numbers words′ l certificates) (entries-more rowFrom 3 (rowNumbers s) i ∙ ap (λ (d : Row). firstRows s i ++ (d ∷ [])) (sym e))
+      (row-entered numbers words (firstRows s i) certificates x words′ r (subst⁻¹ (λ (d : Row). d .role < 256) e (row-in-range s range i h .1)) (subst (λ (n : ℕ). Marked words words′ n) (λ j. b j + q j) m))

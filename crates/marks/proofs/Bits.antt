@@ -14,7 +14,7 @@ use lib.Seq.{getD-set-same, getD-set-other}
 use borrow.Author.Tests.{eq-eqb, ne-eqb}
 use Rattle.marks.specs.Marks.{bit, marked, Marked}
 
-eq-or-ne : (a b : ℕ) → (a ≡ b) ⊎ (a ≢ b)
+pub eq-or-ne : (a b : ℕ) → (a ≡ b) ⊎ (a ≢ b)
 eq-or-ne zero zero = inl refl
 eq-or-ne zero (suc b) = inr (λ q. omega (arith, q))
 eq-or-ne (suc a) zero = inr (λ q. omega (arith, q))
