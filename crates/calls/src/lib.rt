@@ -12,7 +12,7 @@ const STATE_SIZE: usize = 1602;
 fn judge(rules: &[u16], kinds: &[u16], rights: &[u16], state: &[u16]) -> u16
     ensures { λ r. ⌜ r ≡ judgement (lent (now (rules .entry)) (now (kinds .entry)) (now (rights .entry))) (now (state .entry)) ⌝ }
 {
-    if !sound::policy_sound(rules, kinds, rights) {
+    if !policy::policy_sound(rules, kinds, rights) {
         return 1;
     }
     if !sound::state_sound(rules, kinds, state) {

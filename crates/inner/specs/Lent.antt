@@ -2,7 +2,7 @@
 use Prim.Native.Nat.{ℕ, _+_}
 use mathlib.Core.Path.{_≡_}
 use mathlib.Core.List.{List, []}
-pub use Rattle.sound.specs.Lent.{lent}
+pub use Rattle.policy.specs.Lent.{lent}
 use Rattle.model.specs.Records.{Tables, State, worldOf, withRows}
 use Rattle.model.specs.Layout.{policyOf, encode}
 use lib.ListN.{length}

@@ -1,3 +1,2 @@
-pub mod Clauses
 pub mod Parts
 pub mod Rights

@@ -1,6 +1,5 @@
--- Parts of a list that code reads by their places, tables judged entry by entry, each over those before it, and what a well formed
--- state keeps to.
-use Prim.Native.Nat.{ℕ, zero, suc, _+_, _-_, _≤_, _<_}
+-- Tables judged entry by entry, each over those before it, and what a well formed state keeps to.
+use Prim.Native.Nat.{ℕ, zero, suc, _+_, _≤_, _<_}
 use mathlib.Core.Path.{_≡_, sym, ap, _∙_}
 use mathlib.Core.Bool.{Bool, true, false, _&&_}
 use mathlib.Core.Logic.{_⊎_, inl, inr}
@@ -8,8 +7,7 @@ use mathlib.Core.List.{List, [], _∷_}
 use native.Mathlib.Omega.{arith}
 use native.Mathlib.Numerals.{add-one}
 use lib.Dec.{eqb→eq, leb→le}
-use lib.ListN.{length, take, drop, length-drop}
-use lib.Seq.{take-add, drop-at, drop-drop, length-take-le}
+use lib.ListN.{length}
 use Rattle.model.specs.Lists.{allOverEarlier}
 use Rattle.model.specs.Limits.{stateSize, mostRows, mostCertificates}
 use Rattle.model.specs.Layout.{rowCount, certificateCount}
@@ -17,26 +15,7 @@ use Rattle.model.specs.Sound.{formClauses, wellFormed}
 use Rattle.model.proofs.Tests.{of-true, each, earlier-append, lt-or-ge}
 use Rattle.table.specs.Entries.{entry, entries, Sized}
 use Rattle.table.proofs.Entries.{entries-more}
-use Rattle.sound.proofs.Clauses.{and-false}
-
--- ── what stands past the part in use ──
-
-module _ (l : List ℕ) (b : ℕ) where
-  -- of w numbers that stand at b, those past the first k
-  pub past : (w k : ℕ) → k ≤ w → b + w ≤ length l → drop k (take w (drop b l)) ≡ take (w - k) (drop (b + k) l)
-  past w k h fits =
-      let e : w ≡ k + (w - k) = omega arith in
-      ap (λ (n : ℕ). drop k (take n (drop b l))) e
-      ∙ ap (drop k) (take-add k (w - k) (drop b l))
-      ∙ drop-at (take k (drop b l)) (take (w - k) (drop k (drop b l))) k (length-take-le k (drop b l) (simp length-drop (omega arith)))
-      ∙ ap (take (w - k)) (drop-drop k b l)
-
-  -- the same in a row whose first three numbers are not among them
-  pub past-three : (w n : ℕ) → n ≤ w → b + (3 + w) ≤ length l → drop n (drop 3 (take (3 + w) (drop b l))) ≡ take (w - n) (drop (b + 3 + n) l)
-  past-three w n h fits =
-      let e : 3 + w - (3 + n) ≡ w - n = omega arith in
-      let q : b + (3 + n) ≡ b + 3 + n = omega arith in
-      drop-drop n 3 (take (3 + w) (drop b l)) ∙ past (3 + w) (3 + n) (omega arith) fits ∙ (λ i. take (e i) (drop (q i) l))
+use Rattle.policy.proofs.Clauses.{and-false}
 
 -- ── a loop that judges each entry over those before it ──
 

@@ -1,5 +1,4 @@
--- What soundness does not look at: a rule and a certificate name kinds, a row names kinds and a rule, and soundness of a state reads no
--- right.
+-- What soundness of a state does not look at: a certificate names kinds, a row names kinds and a rule, and neither names a right.
 use Prim.Native.Nat.{ℕ}
 use mathlib.Core.Path.{_≡_, refl, ap, _∙_}
 use mathlib.Core.Bool.{not, _&&_}
@@ -20,20 +19,6 @@ use Rattle.table.specs.Entries.{without-rights}
 use Rattle.table.proofs.Worlds.{all-hold-same}
 
 module _ (p₁ p₂ : Policy) (kinds : p₁ .kinds ≡ p₂ .kinds) where
-  condition-fits-same : (c : Condition) → conditionFits p₁ c ≡ conditionFits p₂ c
-  unfolding conditionFits
-  condition-fits-same (role q) = refl
-  condition-fits-same (kind k) = ap (λ (ks : List Kind). ltb k (length ks)) kinds
-  condition-fits-same (fact f) = refl
-  condition-fits-same malformed = refl
-
-  rule-clauses-same : (r : Rule) → ruleClauses p₁ r ≡ ruleClauses p₂ r
-  unfolding ruleClauses
-  rule-clauses-same r = λ i. ltb (r .target) roles ∷ leb (r .m) (r .n) ∷ leb (r .n) mostConditions ∷ all (λ (c : ℕ). condition-fits-same (meant c) i) (activating r) ∷ all isZero (drop (r .n) (r .conditions)) ∷ []
-
-  pub rules-fit-same : (rules : List Rule) → all (ruleFits p₁) rules ≡ all (ruleFits p₂) rules
-  rules-fit-same rules = λ i. all (λ (r : Rule). every (rule-clauses-same r i)) rules
-
   certificate-clauses-same : (earlier : List Certificate) (c : Certificate) → certificateClauses p₁ earlier c ≡ certificateClauses p₂ earlier c
   unfolding certificateClauses
   certificate-clauses-same earlier c = λ i. ltb (c .appointee) users ∷ ltb (c .kind) (length (kinds i)) ∷ ltb (c .appointer) users ∷ not (any (sameCertificate c) earlier) ∷ []

@@ -8,8 +8,8 @@ use Rattle.model.specs.Layout.{kindFrom, policyOf}
 use Rattle.model.specs.Sound.{certificateClauses}
 use Rattle.table.specs.Entries.{firstCertificates}
 use Rattle.table.proofs.Entries.{length-entries}
-use Rattle.sound.specs.Lent.{kindsOnly}
-use Rattle.sound.proofs.Clauses.{here, later, fails-at, passes-at}
+use Rattle.policy.specs.Lent.{kindsOnly}
+use Rattle.policy.proofs.Clauses.{here, later, fails-at, passes-at}
 use native.Mathlib.Omega.{arith}
 use borrow.Author.Needs.{needs}
 use Rattle.sound.proofs.certificate_sound.Statement.{statement}

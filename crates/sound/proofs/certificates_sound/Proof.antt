@@ -9,7 +9,7 @@ use Rattle.model.specs.Lists.{allOverEarlier}
 use Rattle.model.specs.Layout.{certificateFrom, certificateNumbers, certificateCount, decode}
 use Rattle.model.specs.Sound.{certificateSound}
 use Rattle.table.specs.Entries.{certificateAt, firstCertificates}
-use Rattle.sound.specs.Lent.{kindsOnly}
+use Rattle.policy.specs.Lent.{kindsOnly}
 use Rattle.sound.proofs.Parts.{earlier-next, earlier-miss}
 use borrow.Author.Needs.{needs}
 use Rattle.sound.proofs.certificates_sound.Statement.{statement}

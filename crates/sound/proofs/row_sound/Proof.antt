@@ -9,7 +9,7 @@ use Rattle.model.specs.Sound.{rowClauses}
 use Rattle.model.specs.declared.Rule.{Rule}
 use Rattle.table.specs.Entries.{worldAt, firstRows}
 use Rattle.table.proofs.Entries.{length-entries}
-use Rattle.sound.proofs.Clauses.{here, later, fails-at, passes-at}
+use Rattle.policy.proofs.Clauses.{here, later, fails-at, passes-at}
 use borrow.Author.Needs.{needs}
 use Rattle.sound.proofs.row_sound.Statement.{statement}
 use Rattle.sound.proofs.row_sound.Tie as tie

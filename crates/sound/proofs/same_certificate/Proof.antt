@@ -3,7 +3,7 @@ use mathlib.Core.List.{List, [], _∷_}
 use lib.Dec.{eqb}
 use borrow.Author.Tests.{eq-eqb, ne-eqb}
 use Rattle.model.specs.declared.Certificate.{Certificate}
-use Rattle.sound.proofs.Clauses.{here, later, fails, passes}
+use Rattle.policy.proofs.Clauses.{here, later, fails, passes}
 use Rattle.sound.proofs.same_certificate.Statement.{statement}
 use Rattle.sound.proofs.same_certificate.Tie as tie
 

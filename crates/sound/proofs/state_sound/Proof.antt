@@ -7,8 +7,8 @@ use Rattle.model.specs.Lists.{every, allOverEarlier}
 use Rattle.model.specs.Layout.{decode, policyOf}
 use Rattle.model.specs.Sound.{wellFormed, certificateSound, rowSound, soundRecords, sound}
 use Rattle.table.specs.Entries.{without-rights, worldAt}
-use Rattle.sound.specs.Lent.{kindsOnly}
-use Rattle.sound.proofs.Clauses.{and-true, here, later, fails, passes}
+use Rattle.policy.specs.Lent.{kindsOnly}
+use Rattle.policy.proofs.Clauses.{and-true, here, later, fails, passes}
 use Rattle.sound.proofs.Parts.{sized}
 use Rattle.sound.proofs.Rights.{certificates-same}
 use borrow.Author.Needs.{needs}

@@ -5,8 +5,8 @@ use borrow.Author.Tests.{le-leb, lt-leb, eq-eqb, ne-eqb, not-true, not-false}
 use Rattle.model.specs.Lists.{all, isZero}
 use Rattle.model.specs.Layout.{rowCount, certificateCount}
 use Rattle.model.specs.Sound.{formClauses}
-use Rattle.sound.proofs.Clauses.{here, later, fails, passes}
-use Rattle.sound.proofs.Parts.{past}
+use Rattle.policy.proofs.Clauses.{here, later, fails, passes}
+use Rattle.policy.proofs.Parts.{past}
 use borrow.Author.Needs.{needs}
 use Rattle.sound.proofs.well_formed.Statement.{statement}
 use Rattle.sound.proofs.well_formed.Tie as tie

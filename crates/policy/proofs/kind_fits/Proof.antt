@@ -7,11 +7,11 @@ use Rattle.model.specs.Lists.{all, isZero}
 use Rattle.model.specs.Sound.{kindClauses}
 use Rattle.model.specs.declared.Kind.{Kind}
 use Rattle.table.specs.Entries.{kindAt}
-use Rattle.sound.proofs.Clauses.{here, later, fails-at, passes-at}
-use Rattle.sound.proofs.Parts.{past-three}
+use Rattle.policy.proofs.Clauses.{here, later, fails-at, passes-at}
+use Rattle.policy.proofs.Parts.{past-three}
 use borrow.Author.Needs.{needs}
-use Rattle.sound.proofs.kind_fits.Statement.{statement}
-use Rattle.sound.proofs.kind_fits.Tie as tie
+use Rattle.policy.proofs.kind_fits.Statement.{statement}
+use Rattle.policy.proofs.kind_fits.Tie as tie
 
 kind-at-requires : tie.Need-kind-at-requires
 kind-at-requires c κs = search needs

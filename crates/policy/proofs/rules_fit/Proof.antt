@@ -9,11 +9,11 @@ use Rattle.model.specs.Lists.{all}
 use Rattle.model.specs.Layout.{ruleFrom, policyOf}
 use Rattle.model.specs.Sound.{ruleFits}
 use Rattle.table.specs.Entries.{entries, ruleAt}
-use Rattle.sound.specs.Lent.{kindsOnly}
+use Rattle.policy.specs.Lent.{kindsOnly}
 use Rattle.table.proofs.Entries.{entries-all-next, entries-all-miss}
 use borrow.Author.Needs.{needs}
-use Rattle.sound.proofs.rules_fit.Statement.{statement}
-use Rattle.sound.proofs.rules_fit.Tie as tie
+use Rattle.policy.proofs.rules_fit.Statement.{statement}
+use Rattle.policy.proofs.rules_fit.Tie as tie
 
 abbrev Inv-loop : tie.InvT-loop
 Inv-loop rules kinds n i₀ i = (i ≤ length rules / 11) × (all (ruleFits (kindsOnly kinds)) (entries ruleFrom 11 rules i) ≡ true)

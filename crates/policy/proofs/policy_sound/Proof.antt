@@ -6,12 +6,12 @@ use borrow.Author.Tests.{le-leb, lt-leb, eq-eqb, ne-eqb, not-true, not-false}
 use Rattle.model.specs.Layout.{ruleFrom, kindFrom, rightFrom, policyOf}
 use Rattle.model.specs.Sound.{policyClauses}
 use Rattle.table.proofs.Entries.{length-entries}
-use Rattle.sound.specs.Lent.{lent, kindsOnly}
-use Rattle.sound.proofs.Clauses.{here, later, fails, passes}
-use Rattle.sound.proofs.Rights.{rules-fit-same}
+use Rattle.policy.specs.Lent.{lent, kindsOnly}
+use Rattle.policy.proofs.Clauses.{here, later, fails, passes}
+use Rattle.policy.proofs.Rights.{rules-fit-same}
 use borrow.Author.Needs.{needs}
-use Rattle.sound.proofs.policy_sound.Statement.{statement}
-use Rattle.sound.proofs.policy_sound.Tie as tie
+use Rattle.policy.proofs.policy_sound.Statement.{statement}
+use Rattle.policy.proofs.policy_sound.Tie as tie
 
 returns : tie.Need-returns
 unfolding policyClauses

@@ -9,8 +9,8 @@ use borrow.Author.Tests.{lt-ltb, le-ltb}
 use Rattle.model.specs.Lists.{all}
 use Rattle.table.proofs.Entries.{all-next, all-miss}
 use borrow.Author.Needs.{needs}
-use Rattle.sound.proofs.roles_fit.Statement.{statement}
-use Rattle.sound.proofs.roles_fit.Tie as tie
+use Rattle.policy.proofs.roles_fit.Statement.{statement}
+use Rattle.policy.proofs.roles_fit.Tie as tie
 
 abbrev test : ℕ → Bool
 test q = ltb q 256

@@ -10,10 +10,10 @@ use Rattle.model.specs.Lists.{all}
 use Rattle.model.specs.Conditions.{meant}
 use Rattle.model.specs.Sound.{conditionFits}
 use Rattle.table.proofs.Entries.{all-next, all-miss}
-use Rattle.sound.specs.Lent.{kindsOnly}
+use Rattle.policy.specs.Lent.{kindsOnly}
 use borrow.Author.Needs.{needs}
-use Rattle.sound.proofs.conditions_fit.Statement.{statement}
-use Rattle.sound.proofs.conditions_fit.Tie as tie
+use Rattle.policy.proofs.conditions_fit.Statement.{statement}
+use Rattle.policy.proofs.conditions_fit.Tie as tie
 
 abbrev test : List ℕ → ℕ → Bool
 test kinds c = conditionFits (kindsOnly kinds) (meant c)

@@ -11,8 +11,8 @@ use Rattle.model.specs.Sound.{kindFits}
 use Rattle.table.specs.Entries.{entries, kindAt}
 use Rattle.table.proofs.Entries.{entries-all-next, entries-all-miss}
 use borrow.Author.Needs.{needs}
-use Rattle.sound.proofs.kinds_fit.Statement.{statement}
-use Rattle.sound.proofs.kinds_fit.Tie as tie
+use Rattle.policy.proofs.kinds_fit.Statement.{statement}
+use Rattle.policy.proofs.kinds_fit.Tie as tie
 
 abbrev Inv-loop : tie.InvT-loop
 Inv-loop kinds n k₀ k = (k ≤ length kinds / 7) × (all kindFits (entries kindFrom 7 kinds k) ≡ true)

@@ -9,8 +9,8 @@ use borrow.Author.Tests.{eq-eqb, ne-eqb}
 use Rattle.model.specs.Lists.{all, isZero}
 use Rattle.table.proofs.Entries.{all-next, all-miss}
 use borrow.Author.Needs.{needs}
-use Rattle.sound.proofs.all_zero.Statement.{statement}
-use Rattle.sound.proofs.all_zero.Tie as tie
+use Rattle.policy.proofs.all_zero.Statement.{statement}
+use Rattle.policy.proofs.all_zero.Tie as tie
 
 abbrev Inv-loop : tie.InvT-loop
 Inv-loop numbers from count j₀ j = (j ≤ count) × (all isZero (take j (drop from numbers)) ≡ true)

@@ -8,8 +8,8 @@ use Rattle.model.specs.Conditions.{meant}
 use Rattle.model.specs.Sound.{conditionFits}
 use Rattle.table.proofs.Entries.{length-entries}
 use borrow.Author.Needs.{needs}
-use Rattle.sound.proofs.condition_fits.Statement.{statement}
-use Rattle.sound.proofs.condition_fits.Tie as tie
+use Rattle.policy.proofs.condition_fits.Statement.{statement}
+use Rattle.policy.proofs.condition_fits.Tie as tie
 
 returns : tie.Need-returns
 unfolding meant conditionFits

@@ -7,12 +7,12 @@ use Rattle.model.specs.Lists.{all, isZero}
 use Rattle.model.specs.Sound.{ruleClauses}
 use Rattle.model.specs.declared.Rule.{Rule}
 use Rattle.table.specs.Entries.{ruleAt}
-use Rattle.sound.specs.Lent.{kindsOnly}
-use Rattle.sound.proofs.Clauses.{here, later, fails-at, passes-at}
-use Rattle.sound.proofs.Parts.{past-three}
+use Rattle.policy.specs.Lent.{kindsOnly}
+use Rattle.policy.proofs.Clauses.{here, later, fails-at, passes-at}
+use Rattle.policy.proofs.Parts.{past-three}
 use borrow.Author.Needs.{needs}
-use Rattle.sound.proofs.rule_fits.Statement.{statement}
-use Rattle.sound.proofs.rule_fits.Tie as tie
+use Rattle.policy.proofs.rule_fits.Statement.{statement}
+use Rattle.policy.proofs.rule_fits.Tie as tie
 
 rule-at-requires : tie.Need-rule-at-requires
 rule-at-requires c κs = search needs

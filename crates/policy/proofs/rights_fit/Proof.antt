@@ -11,8 +11,8 @@ use Rattle.model.specs.Sound.{rightFits}
 use Rattle.table.specs.Entries.{entries, rightAt}
 use Rattle.table.proofs.Entries.{entries-all-next, entries-all-miss}
 use borrow.Author.Needs.{needs}
-use Rattle.sound.proofs.rights_fit.Statement.{statement}
-use Rattle.sound.proofs.rights_fit.Tie as tie
+use Rattle.policy.proofs.rights_fit.Statement.{statement}
+use Rattle.policy.proofs.rights_fit.Tie as tie
 
 abbrev Inv-loop : tie.InvT-loop
 Inv-loop rights n i₀ i = (i ≤ length rights / 2) × (all rightFits (entries rightFrom 2 rights i) ≡ true)

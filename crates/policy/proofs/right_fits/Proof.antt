@@ -1,8 +1,8 @@
 use borrow.Author.Tests.{lt-ltb, le-ltb}
 use Rattle.model.specs.Sound.{rightClauses}
-use Rattle.sound.proofs.Clauses.{here, later, fails, passes}
-use Rattle.sound.proofs.right_fits.Statement.{statement}
-use Rattle.sound.proofs.right_fits.Tie as tie
+use Rattle.policy.proofs.Clauses.{here, later, fails, passes}
+use Rattle.policy.proofs.right_fits.Statement.{statement}
+use Rattle.policy.proofs.right_fits.Tie as tie
 
 returns : tie.Need-returns
 unfolding rightClauses
