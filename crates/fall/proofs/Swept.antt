@@ -18,15 +18,8 @@ use Rattle.model.proofs.Tests.{lt-or-ge}
 use Rattle.table.specs.Entries.{rowAt, firstRows, without-rights, worldAt, Sized}
 use Rattle.table.proofs.Entries.{entries-more, length-entries}
 use Rattle.fall.specs.Writes.{Moved, Zeroed}
-use Rattle.fall.specs.Changes.{rowPlace, Judged, Closed, Left}
+use Rattle.fall.specs.Changes.{rowPlace, Judged, Swept, Closed, Left}
 use Rattle.fall.proofs.Form.{Formed, as-encoded, facts-same, certificates-same, row-same, rows-same}
-
-pub record Swept (ok : List Row → Row → Bool) (s₀ s : List ℕ) (i w : ℕ) : Type 0 where
-  pub within : w ≤ i
-  pub size : length s ≡ length s₀
-  pub below : (k : ℕ) → k < 65 → getD s k 0 ≡ getD s₀ k 0
-  pub above : (k : ℕ) → rowPlace i ≤ k → getD s k 0 ≡ getD s₀ k 0
-  pub rows : firstRows s w ≡ left ok (firstRows s₀ i)
 
 pub swept-none : (ok : List Row → Row → Bool) (s : List ℕ) → Swept ok s s 0 0
 unfolding firstRows left

@@ -22,6 +22,14 @@ pub record Judged (stays : Bool) (s s′ : List ℕ) (w i kept : ℕ) : Type 0 w
   pub stood : stays ≡ true → Moved s s′ (rowPlace i) (rowPlace w) rowWidth × (kept ≡ w + 1)
   pub fell : stays ≡ false → (s′ ≡ s) × (kept ≡ w)
 
+-- i rows are judged by the test, and w of them are kept, in front; nothing else has changed but what stands between
+pub record Swept (ok : List Row → Row → Bool) (s₀ s : List ℕ) (i w : ℕ) : Type 0 where
+  pub within : w ≤ i
+  pub size : length s ≡ length s₀
+  pub below : (k : ℕ) → k < 65 → getD s k 0 ≡ getD s₀ k 0
+  pub above : (k : ℕ) → rowPlace i ≤ k → getD s k 0 ≡ getD s₀ k 0
+  pub rows : firstRows s w ≡ left ok (firstRows s₀ i)
+
 -- of n rows the first w are left, with the count set; `lost` is the rows lost
 pub record Closed (s s′ : List ℕ) (w n lost : ℕ) : Type 0 where
   pub size : length s′ ≡ length s

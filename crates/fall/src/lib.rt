@@ -1,20 +1,20 @@
 // Changing a state in place: rows that have lost their support fall, a user's rows go, rows and certificates come and go.
 ghost use mathlib.Core.Path.{_≡_};
 ghost use mathlib.Core.Bool.{true, not};
-ghost use mathlib.Core.List.{[], _∷_, _++_};
-ghost use Prim.Native.Nat.{_+_, _*_, _-_, _<_, _≤_};
-ghost use lib.ListN.{length};
-ghost use Rattle.model.specs.Lists.{any, without};
-ghost use Rattle.model.specs.Limits.{mostRows, mostCertificates, stateSize};
-ghost use Rattle.model.specs.Records.{withRows, withCertificates};
-ghost use Rattle.model.specs.Layout.{decode, encode};
+ghost use mathlib.Core.List.{[]};
+ghost use Prim.Native.Nat.{_+_, _<_, _≤_};
+ghost use lib.ListN.{length, getD};
+ghost use Rattle.model.specs.Lists.{without};
+ghost use Rattle.model.specs.Limits.{users, roles, mostRows, stateSize};
+ghost use Rattle.model.specs.Layout.{decode, rowCount};
 ghost use Rattle.model.specs.Conditions.{supported};
 ghost use Rattle.model.specs.Left.{left};
 ghost use Rattle.model.specs.Sound.{wellFormed};
 ghost use Rattle.model.specs.Calls.{ofUser};
 ghost use Rattle.table.specs.Entries.{rowAt, firstRows, worldAt, Sized};
+ghost use Rattle.index.specs.Indexed.{InRange, Numbered, Indexed};
 ghost use Rattle.fall.specs.Writes.{Moved, Zeroed};
-ghost use Rattle.fall.specs.Changes.{rowPlace, Judged, Closed, Left};
+ghost use Rattle.fall.specs.Changes.{rowPlace, Judged, Swept, Closed, Left};
 
 const ROW_COUNT: usize = 64;
 
@@ -56,13 +56,24 @@ fn keep_row(state: &mut [u16], w: usize, i: usize)
     }
 }
 
-// Row i is judged over the w rows kept. Returns how many are kept now.
-fn judge(rules: &[u16], kinds: &[u16], state: &mut [u16], w: usize, i: usize) -> usize
-    requires { ⌜ Sized (now state) × (w ≤ i) × (i < mostRows) ⌝ }
-    ensures { λ r. ⌜ Judged (supported (worldAt (now (rules .entry)) (now (kinds .entry)) (now (state .entry))) (firstRows (now (state .entry)) w) (rowAt (now (state .entry)) i)) (now (state .entry)) (now (state .exit)) w i r ⌝ }
+// Row i is judged over the w rows kept, which are entered in the index, and entered if it stays. Returns how many are kept now.
+fn judge(
+    rules: &[u16],
+    kinds: &[u16],
+    state: &mut [u16],
+    numbers: &[u16],
+    words: &mut [u16],
+    w: usize,
+    i: usize,
+) -> usize
+    requires { ⌜ Sized (now state) × (w ≤ i) × (i < mostRows) × (rowAt (now state) i .role < roles) × (rowAt (now state) i .user < users) × (0 < getD (now numbers) (rowAt (now state) i .user) 0) × Indexed (now numbers) (now words) (firstRows (now state) w) (decode (now state) .certificates) ⌝ }
+    ensures judged { λ r. ⌜ Judged (supported (worldAt (now (rules .entry)) (now (kinds .entry)) (now (state .entry))) (firstRows (now (state .entry)) w) (rowAt (now (state .entry)) i)) (now (state .entry)) (now (state .exit)) w i r ⌝ }
+    ensures entered { λ r. ⌜ Indexed (now (numbers .entry)) (now (words .exit)) (firstRows (now (state .exit)) r) (decode (now (state .entry)) .certificates) ⌝ }
 {
     let row = table::row_at(state, i);
-    if table::row_supported(rules, kinds, state, w, row) {
+    let base = index::base_of(numbers, row.user);
+    if index::row_supported(rules, kinds, state, words, base, row) {
+        marks::mark(words, base + table::wide(row.role));
         keep_row(state, w, i);
         return w + 1;
     }
@@ -92,18 +103,38 @@ fn close(state: &mut [u16], w: usize, n: usize) -> u16
     (n - w) as u16
 }
 
-// Rows that have lost their support fall: one pass from the first row to the last.
-pub fn fall(rules: &[u16], kinds: &[u16], state: &mut [u16]) -> u16
-    requires { ⌜ wellFormed (now state) ≡ true ⌝ }
-    ensures { λ r. ⌜ Left (now (state .entry)) (now (state .exit)) (left (supported (worldAt (now (rules .entry)) (now (kinds .entry)) (now (state .entry)))) (decode (now (state .entry)) .rows)) r ⌝ }
+// The pass from the first row to the last. Returns how many rows are kept.
+fn sweep(
+    rules: &[u16],
+    kinds: &[u16],
+    state: &mut [u16],
+    numbers: &[u16],
+    words: &mut [u16],
+    n: usize,
+) -> usize
+    requires { ⌜ InRange (now state) × Numbered (now state) (now numbers) × Indexed (now numbers) (now words) [] (decode (now state) .certificates) × (n ≡ rowCount (now state)) ⌝ }
+    ensures { λ r. ⌜ Swept (supported (worldAt (now (rules .entry)) (now (kinds .entry)) (now (state .entry)))) (now (state .entry)) (now (state .exit)) (rowCount (now (state .entry))) r ⌝ }
 {
-    let n = table::wide(state[ROW_COUNT]);
     let mut i: usize = 0;
     let mut w: usize = 0;
     while i < n {
-        w = judge(rules, kinds, state, w, i);
+        w = judge(rules, kinds, state, numbers, words, w, i);
         i += 1;
     }
+    w
+}
+
+// Rows that have lost their support fall.
+pub fn fall(rules: &[u16], kinds: &[u16], state: &mut [u16]) -> u16
+    requires { ⌜ (wellFormed (now state) ≡ true) × InRange (now state) ⌝ }
+    ensures { λ r. ⌜ Left (now (state .entry)) (now (state .exit)) (left (supported (worldAt (now (rules .entry)) (now (kinds .entry)) (now (state .entry)))) (decode (now (state .entry)) .rows)) r ⌝ }
+{
+    let n = table::wide(state[ROW_COUNT]);
+    let mut numbers = [0u16; 4096];
+    index::number_users(state, &mut numbers);
+    let mut words = [0u16; 6168];
+    index::enter_certificates(state, &numbers, &mut words);
+    let w = sweep(rules, kinds, state, &numbers, &mut words, n);
     close(state, w, n)
 }
 

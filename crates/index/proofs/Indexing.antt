@@ -12,7 +12,9 @@ use lib.Seq.{getD-set-same, getD-set-other}
 use borrow.Author.Tests.{eq-eqb, ne-eqb}
 use Rattle.model.specs.Lists.{any}
 use Rattle.model.specs.Layout.{decode, rowCount, certificateCount, rowFrom, rowNumbers, certificateFrom, certificateNumbers}
-use Rattle.model.specs.Conditions.{isRow, active, someStands}
+use Rattle.model.specs.Conditions.{isRow, active, someStands, supported, satisfied}
+use Rattle.model.specs.Records.{World}
+use Rattle.model.specs.declared.Rule.{Rule}
 use Rattle.model.specs.declared.Row.{Row}
 use Rattle.model.specs.declared.Certificate.{Certificate}
 use Rattle.model.proofs.Tests.{any-append}
@@ -20,9 +22,9 @@ use Rattle.table.specs.Entries.{rowAt, firstRows, certificateAt, firstCertifica
 use Rattle.table.proofs.Entries.{entry-member, entries-more}
 use Rattle.marks.specs.Marks.{bit, marked, Marked}
 use Rattle.marks.proofs.Bits.{eq-or-ne}
-use Rattle.index.specs.Marked.{Room, block}
+use Rattle.index.specs.Marked.{Room, block, supportedBy, satisfiedBy}
 use Rattle.index.specs.Indexed.{InRange, baseOf, Apart, Numbered, Indexed}
-use Rattle.index.proofs.Holding.{Says}
+use Rattle.index.proofs.Holding.{Says, supported-said, satisfied-said}
 
 -- ── ranges, by places ──
 
@@ -39,12 +41,12 @@ certificate-in-range s r i h = r .certificates (certificateAt s i) (entry-member
 abbrev pub zeros : ℕ → List ℕ
 zeros n = replicate n 0
 
-getD-zeros : (n i : ℕ) → getD (zeros n) i 0 ≡ 0
+pub getD-zeros : (n i : ℕ) → getD (zeros n) i 0 ≡ 0
 getD-zeros zero i = refl
 getD-zeros (suc n) zero = refl
 getD-zeros (suc n) (suc i) = getD-zeros n i
 
-length-zeros : (n : ℕ) → length (zeros n) ≡ n
+pub length-zeros : (n : ℕ) → length (zeros n) ≡ n
 length-zeros zero = refl
 length-zeros (suc n) = ap suc (length-zeros n)
 
@@ -155,6 +157,17 @@ indexed-user v h = indexed-none (set (zeros 4096) v 1) 48 (length-set (zeros 409
 
 pub says : (numbers words : List ℕ) (rows : List Row) (certificates : List Certificate) → Indexed numbers words rows certificates → (u : ℕ) → 0 < getD numbers u 0 → Says (block words (baseOf numbers u)) rows certificates u
 says numbers words rows certificates x u h = record { roles-said = λ q l. x .roles-marked u q h l; kinds-said = λ k l. x .kinds-marked u k h l; beyond = x .beyond u }
+
+-- what code asks of a user that has a number
+module _ (numbers words : List ℕ) (rows : List Row) (w : World) (x : Indexed numbers words rows (w .certificates)) (u base : ℕ) (e : base ≡ baseOf numbers u) (known : 0 < getD numbers u 0) where
+  pub active-there : (q n : ℕ) → q < 256 → n ≡ q → marked words (base + n) ≡ active rows u q
+  active-there q n h m = (λ i. marked words (e i + m i)) ∙ x .roles-marked u q known h
+
+  pub supported-there : (r : Row) → r .user ≡ u → supportedBy (block words base) w r ≡ supported w rows r
+  supported-there r q = ap (λ (b : ℕ). supportedBy (block words b) w r) e ∙ supported-said (block words (baseOf numbers u)) rows w u (says numbers words rows (w .certificates) x u known) r q
+
+  pub satisfied-there : (q : ℕ) (r : Rule) → satisfiedBy (block words base) w q r ≡ satisfied w rows u q r
+  satisfied-there q r = ap (λ (b : ℕ). satisfiedBy (block words b) w q r) e ∙ satisfied-said (block words (baseOf numbers u)) rows w u (says numbers words rows (w .certificates) x u known) q r
 
 same-room : (words words′ : List ℕ) (base : ℕ) → length words′ ≡ length words → Room words base → Room words′ base
 same-room words words′ base e r = record { inside = omega (arith, e, r .inside); most = r .most }

@@ -1,2 +1,4 @@
 pub mod Parts
 pub mod Rights
+pub mod Traces
+pub mod Ranges

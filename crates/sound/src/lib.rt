@@ -1,15 +1,20 @@
 // Whether a lent state is sound. A lent state holds any numbers, so a count is bounded before rows are read.
 ghost use mathlib.Core.Path.{_≡_};
-ghost use Prim.Native.Nat.{_/_, _<_, _≤_};
+ghost use Prim.Native.Nat.{_+_, _/_, _<_, _≤_};
+ghost use mathlib.Core.Bool.{true};
 ghost use mathlib.Core.List.{[]};
 ghost use lib.ListN.{length};
 ghost use Rattle.model.specs.Lists.{all, any, allOverEarlier, isBit};
-ghost use Rattle.model.specs.Limits.{stateSize, mostRows, mostCertificates};
-ghost use Rattle.model.specs.Layout.{decode, policyOf, factNumbers};
+ghost use Rattle.model.specs.Limits.{stateSize, mostCertificates, mostKinds};
+ghost use Rattle.model.specs.Layout.{decode, policyOf, factNumbers, rowCount};
 ghost use Rattle.model.specs.Sound.{wellFormed, sameCertificate, certificateSound, rowSound, sound};
 ghost use Rattle.table.specs.Entries.{rowAt, firstRows, certificateAt, firstCertificates, without-rights, worldAt, Sized};
+ghost use Rattle.index.specs.Indexed.{InRange, Numbered, Indexed};
 ghost use Rattle.policy.specs.Lent.{kindsOnly};
+ghost use Rattle.sound.specs.Traces.{trace, Traced};
+ghost use Rattle.sound.specs.Ranges.{rowInRange, CertificatesInRange};
 use model::Certificate;
+use model::Row;
 
 const USERS: u16 = 4096;
 
@@ -30,6 +35,8 @@ const CERTIFICATES: usize = 834;
 const MOST: usize = 256;
 
 const WIDTH: usize = 3;
+
+const TRACES: usize = 16384;
 
 const RULE_WIDTH: usize = 11;
 
@@ -110,10 +117,33 @@ fn stands_earlier(state: &[u16], k: usize, certificate: Certificate) -> bool
     false
 }
 
+// A place below 16,384 that equal certificates share.
+fn trace_of(certificate: Certificate) -> usize
+    ensures few { λ r. ⌜ r < 16384 ⌝ }
+    ensures own { λ r. ⌜ r ≡ trace certificate ⌝ }
+{
+    let appointee = certificate.appointee as usize;
+    let kind = certificate.kind as usize;
+    let appointer = certificate.appointer as usize;
+    (appointee * 128 + (kind + appointer * 61)) % TRACES
+}
+
+// The certificate is one of the first k, which have marked their traces: only where its own trace is marked are they looked through.
+fn stands_already(state: &[u16], traces: &[u16], k: usize, certificate: Certificate) -> bool
+    requires { ⌜ (length (now state) ≡ stateSize) × (k ≤ mostCertificates) × Traced (now traces) (firstCertificates (now state) k) ⌝ }
+    ensures { λ r. ⌜ r ≡ any (sameCertificate certificate) (firstCertificates (now (state .entry)) k) ⌝ }
+{
+    if marks::is_marked(traces, trace_of(certificate)) {
+        return stands_earlier(state, k, certificate);
+    }
+    false
+}
+
 // "ranges are kept, .. no certificate stands twice, each certificate's kind has a row"
-fn certificate_sound(kinds: &[u16], state: &[u16], i: usize) -> bool
-    requires { ⌜ (length (now state) ≡ stateSize) × (i < mostCertificates) ⌝ }
-    ensures { λ r. ⌜ r ≡ certificateSound (kindsOnly (now (kinds .entry))) (firstCertificates (now (state .entry)) i) (certificateAt (now (state .entry)) i) ⌝ }
+fn certificate_sound(kinds: &[u16], state: &[u16], traces: &mut [u16], i: usize) -> bool
+    requires { ⌜ (length (now state) ≡ stateSize) × (i < mostCertificates) × Traced (now traces) (firstCertificates (now state) i) ⌝ }
+    ensures answer { λ r. ⌜ r ≡ certificateSound (kindsOnly (now (kinds .entry))) (firstCertificates (now (state .entry)) i) (certificateAt (now (state .entry)) i) ⌝ }
+    ensures entered { λ r. ⌜ (r ≡ true → Traced (now (traces .exit)) (firstCertificates (now (state .entry)) (i + 1))) ⌝ }
 {
     let certificate = table::certificate_at(state, i);
     if certificate.appointee >= USERS {
@@ -125,8 +155,24 @@ fn certificate_sound(kinds: &[u16], state: &[u16], i: usize) -> bool
     if certificate.appointer >= USERS {
         return false;
     }
-    if stands_earlier(state, i, certificate) {
+    if stands_already(state, traces, i, certificate) {
         return false;
+    }
+    marks::mark(traces, trace_of(certificate));
+    true
+}
+
+fn each_certificate_sound(kinds: &[u16], state: &[u16], traces: &mut [u16]) -> bool
+    requires { ⌜ Sized (now state) × Traced (now traces) [] ⌝ }
+    ensures { λ r. ⌜ r ≡ allOverEarlier (certificateSound (kindsOnly (now (kinds .entry)))) [] (decode (now (state .entry)) .certificates) ⌝ }
+{
+    let n = table::wide(state[CERTIFICATE_COUNT]);
+    let mut i: usize = 0;
+    while i < n {
+        if !certificate_sound(kinds, state, traces, i) {
+            return false;
+        }
+        i += 1;
     }
     true
 }
@@ -135,10 +181,31 @@ fn certificates_sound(kinds: &[u16], state: &[u16]) -> bool
     requires { ⌜ Sized (now state) ⌝ }
     ensures { λ r. ⌜ r ≡ allOverEarlier (certificateSound (kindsOnly (now (kinds .entry)))) [] (decode (now (state .entry)) .certificates) ⌝ }
 {
-    let n = state[CERTIFICATE_COUNT] as usize;
+    let mut traces = [0u16; 1024];
+    each_certificate_sound(kinds, state, &mut traces)
+}
+
+// The row's user and role are in range.
+fn row_in_range(row: Row) -> bool
+    ensures { λ r. ⌜ r ≡ rowInRange row ⌝ }
+{
+    if row.user >= USERS {
+        return false;
+    }
+    if row.role >= ROLES {
+        return false;
+    }
+    true
+}
+
+fn rows_in_range(state: &[u16]) -> bool
+    requires { ⌜ Sized (now state) ⌝ }
+    ensures { λ r. ⌜ r ≡ all rowInRange (decode (now (state .entry)) .rows) ⌝ }
+{
+    let n = table::wide(state[ROW_COUNT]);
     let mut i: usize = 0;
     while i < n {
-        if !certificate_sound(kinds, state, i) {
+        if !row_in_range(table::row_at(state, i)) {
             return false;
         }
         i += 1;
@@ -147,22 +214,26 @@ fn certificates_sound(kinds: &[u16], state: &[u16]) -> bool
 }
 
 // "each active row's rule exists and has that role as target, and each of its membership conditions holds, where "active" means
-// active in an earlier row of the same user"
-fn row_sound(rules: &[u16], kinds: &[u16], state: &[u16], i: usize) -> bool
-    requires { ⌜ Sized (now state) × (i < mostRows) ⌝ }
-    ensures { λ r. ⌜ r ≡ rowSound (worldAt (now (rules .entry)) (now (kinds .entry)) (now (state .entry))) (firstRows (now (state .entry)) i) (rowAt (now (state .entry)) i) ⌝ }
+// active in an earlier row of the same user". The earlier rows are entered in the index, and this one if it is sound.
+fn row_sound(
+    rules: &[u16],
+    kinds: &[u16],
+    state: &[u16],
+    numbers: &[u16],
+    words: &mut [u16],
+    i: usize,
+) -> bool
+    requires { ⌜ InRange (now state) × Numbered (now state) (now numbers) × Indexed (now numbers) (now words) (firstRows (now state) i) (decode (now state) .certificates) × (i < rowCount (now state)) ⌝ }
+    ensures answer { λ r. ⌜ r ≡ rowSound (worldAt (now (rules .entry)) (now (kinds .entry)) (now (state .entry))) (firstRows (now (state .entry)) i) (rowAt (now (state .entry)) i) ⌝ }
+    ensures entered { λ r. ⌜ (r ≡ true → Indexed (now (numbers .entry)) (now (words .exit)) (firstRows (now (state .entry)) (i + 1)) (decode (now (state .entry)) .certificates)) ⌝ }
 {
     let row = table::row_at(state, i);
-    if row.user >= USERS {
+    let base = index::base_of(numbers, row.user);
+    let at = base + table::wide(row.role);
+    if marks::is_marked(words, at) {
         return false;
     }
-    if row.role >= ROLES {
-        return false;
-    }
-    if table::is_active(state, i, row.user, row.role) {
-        return false;
-    }
-    let number = row.rule as usize;
+    let number = table::wide(row.rule);
     if number >= rules.len() / RULE_WIDTH {
         return false;
     }
@@ -170,20 +241,27 @@ fn row_sound(rules: &[u16], kinds: &[u16], state: &[u16], i: usize) -> bool
     if rule.target != row.role {
         return false;
     }
-    if !table::row_supported(rules, kinds, state, i, row) {
+    if !index::row_supported(rules, kinds, state, words, base, row) {
         return false;
     }
+    marks::mark(words, at);
     true
 }
 
-fn rows_sound(rules: &[u16], kinds: &[u16], state: &[u16]) -> bool
-    requires { ⌜ Sized (now state) ⌝ }
+fn each_row_sound(
+    rules: &[u16],
+    kinds: &[u16],
+    state: &[u16],
+    numbers: &[u16],
+    words: &mut [u16],
+) -> bool
+    requires { ⌜ InRange (now state) × Numbered (now state) (now numbers) × Indexed (now numbers) (now words) [] (decode (now state) .certificates) ⌝ }
     ensures { λ r. ⌜ r ≡ allOverEarlier (rowSound (worldAt (now (rules .entry)) (now (kinds .entry)) (now (state .entry)))) [] (decode (now (state .entry)) .rows) ⌝ }
 {
-    let n = state[ROW_COUNT] as usize;
+    let n = table::wide(state[ROW_COUNT]);
     let mut i: usize = 0;
     while i < n {
-        if !row_sound(rules, kinds, state, i) {
+        if !row_sound(rules, kinds, state, numbers, words, i) {
             return false;
         }
         i += 1;
@@ -191,8 +269,23 @@ fn rows_sound(rules: &[u16], kinds: &[u16], state: &[u16]) -> bool
     true
 }
 
+fn rows_sound(rules: &[u16], kinds: &[u16], state: &[u16]) -> bool
+    requires { ⌜ Sized (now state) × CertificatesInRange (now state) ⌝ }
+    ensures { λ r. ⌜ r ≡ allOverEarlier (rowSound (worldAt (now (rules .entry)) (now (kinds .entry)) (now (state .entry)))) [] (decode (now (state .entry)) .rows) ⌝ }
+{
+    if !rows_in_range(state) {
+        return false;
+    }
+    let mut numbers = [0u16; 4096];
+    index::number_users(state, &mut numbers);
+    let mut words = [0u16; 6168];
+    index::enter_certificates(state, &numbers, &mut words);
+    each_row_sound(rules, kinds, state, &numbers, &mut words)
+}
+
 // The state is well formed, and its certificates and active rows are sound, each over those before it.
 pub fn state_sound(rules: &[u16], kinds: &[u16], state: &[u16]) -> bool
+    requires { ⌜ length (now kinds) / 7 ≤ mostKinds ⌝ }
     ensures { λ r. ⌜ r ≡ sound (policyOf (without-rights (now (rules .entry)) (now (kinds .entry)))) (now (state .entry)) ⌝ }
 {
     if !well_formed(state) {

@@ -1,70 +1,64 @@
--- The invariant: the rows passed are sound, each over those before it.
-use Prim.Native.Nat.{ℕ, _≤_, _-_}
-use mathlib.Core.Path.{_≡_, refl, sym, ap, _∙_}
-use mathlib.Core.Bool.{true}
-use mathlib.Core.List.{[]}
-use native.Mathlib.Omega.{arith}
+use mathlib.Core.Path.{_≡_, refl, sym, _∙_}
 use borrow.Author.Tests.{not-true, not-false}
-use Rattle.model.specs.Lists.{allOverEarlier}
-use Rattle.model.specs.Layout.{rowFrom, rowNumbers, rowCount, decode}
-use Rattle.model.specs.Sound.{rowSound}
-use Rattle.table.specs.Entries.{rowAt, firstRows, worldAt}
-use Rattle.sound.proofs.Parts.{earlier-next, earlier-miss}
+use Rattle.model.specs.Layout.{decode}
+use Rattle.table.specs.Entries.{worldAt}
+use Rattle.index.proofs.Indexing.{indexed-state}
+use Rattle.sound.proofs.Ranges.{rows-out, ranges}
 use borrow.Author.Needs.{needs}
 use Rattle.sound.proofs.rows_sound.Statement.{statement}
 use Rattle.sound.proofs.rows_sound.Tie as tie
 
-abbrev Inv-loop : tie.InvT-loop
-Inv-loop rules kinds state n i₀ i = (i ≤ rowCount state) × (allOverEarlier (rowSound (worldAt rules kinds state)) [] (firstRows state i) ≡ true)
+rows-in-range-requires : tie.Need-rows-in-range-requires
+rows-in-range-requires c κs = search needs
 
-abbrev μ-loop : tie.MeasureT-loop
-μ-loop rules kinds state n i₀ i = rowCount state - i
+returns : tie.Need-returns
+returns c = sym (rows-out (worldAt (c .before .before .before .before .before .args .rules .now) (c .before .before .before .before .before .args .kinds .now) (c .before .before .before .before .before .args .state .now)) (decode (c .before .before .before .before .before .args .state .now) .rows) (sym (c .before .rows-in-range .ensures) ∙ not-true _ (c .if1 .taken)))
 
-shared-slice-read-n : tie.Need-shared-slice-read-n Inv-loop μ-loop
-shared-slice-read-n c = search needs
+-- src/lib.rt:280:32
+slice-aggregate-number-users : tie.Need-slice-aggregate-number-users
+slice-aggregate-number-users c = search needs
 
-cast-n : tie.Need-cast-n Inv-loop μ-loop
-cast-n c = omega (arith, c .before .before .before .shared-slice-known .given 64)
+number-users-requires : tie.Need-number-users-requires
+number-users-requires c κs = (ranges (c .before .before .before .before .before .before .args .state .now) (c .before .before .before .before .before .before .pre .0) (c .before .before .before .before .before .before .pre .1) (sym (c .before .before .rows-in-range .ensures) ∙ not-false _ (c .before .if1 .left)), refl)
 
-loop-holds : tie.Need-loop-holds Inv-loop μ-loop
-unfolding firstRows
-loop-holds c = (search needs, refl)
+-- src/lib.rt:282:38
+slice-aggregate-enter-certificates : tie.Need-slice-aggregate-enter-certificates
+slice-aggregate-enter-certificates c = search needs
 
-row-sound-requires : tie.Need-row-sound-requires Inv-loop μ-loop
-row-sound-requires c κs = search needs
+-- src/lib.rt:282:48
+slice-aggregate-enter-certificates-2 : tie.Need-slice-aggregate-enter-certificates-2
+slice-aggregate-enter-certificates-2 c = search needs
 
-returns : tie.Need-returns Inv-loop μ-loop
-unfolding firstRows rowAt decode
-returns c = sym (earlier-miss rowFrom 3 (rowSound (worldAt (c .before .before .before .before .before .before .before .before .args .rules .now) (c .before .before .before .before .before .before .before .before .args .kinds .now) (c .before .before .before .before .before .before .before .before .args .state .now))) (rowNumbers (c .before .before .before .before .before .before .before .before .args .state .now)) (rowCount (c .before .before .before .before .before .before .before .before .args .state .now)) (c .before .before .before .loop .i) (c .before .before .loop-test .taken) (sym (c .before .row-sound .ensures) ∙ not-true _ (c .if1 .taken)))
+enter-certificates-requires : tie.Need-enter-certificates-requires
+enter-certificates-requires c κs = (ranges (c .before .before .before .before .before .before .before .before .before .before .args .state .now) (c .before .before .before .before .before .before .before .before .before .before .pre .0) (c .before .before .before .before .before .before .before .before .before .before .pre .1) (sym (c .before .before .before .before .before .before .rows-in-range .ensures) ∙ not-false _ (c .before .before .before .before .before .if1 .left)), indexed-state (c .before .before .before .before .before .before .before .before .before .before .args .state .now) _ (c .before .before .before .number-users .ensures))
 
-add-i : tie.Need-add-i Inv-loop μ-loop
-add-i c = search needs
+-- src/lib.rt:283:41
+slice-aggregate-each-row-sound : tie.Need-slice-aggregate-each-row-sound
+slice-aggregate-each-row-sound c = search needs
 
-loop-less : tie.Need-loop-less Inv-loop μ-loop
-loop-less c = search needs
+-- src/lib.rt:283:51
+slice-aggregate-each-row-sound-2 : tie.Need-slice-aggregate-each-row-sound-2
+slice-aggregate-each-row-sound-2 c = search needs
 
-loop-again : tie.Need-loop-again Inv-loop μ-loop
-unfolding firstRows rowAt
-loop-again c = (search needs, earlier-next rowFrom 3 (rowSound (worldAt (c .before .before .before .before .before .before .before .before .args .rules .now) (c .before .before .before .before .before .before .before .before .args .kinds .now) (c .before .before .before .before .before .before .before .before .args .state .now))) (rowNumbers (c .before .before .before .before .before .before .before .before .args .state .now)) (c .before .before .before .loop .i) (c .before .before .before .loop .inv .1) (sym (c .before .row-sound .ensures) ∙ not-false _ (c .if1 .left)))
+each-row-sound-requires : tie.Need-each-row-sound-requires
+each-row-sound-requires c κs = (ranges (c .before .before .before .before .before .before .before .before .before .before .before .before .before .before .args .state .now) (c .before .before .before .before .before .before .before .before .before .before .before .before .before .before .pre .0) (c .before .before .before .before .before .before .before .before .before .before .before .before .before .before .pre .1) (sym (c .before .before .before .before .before .before .before .before .before .before .rows-in-range .ensures) ∙ not-false _ (c .before .before .before .before .before .before .before .before .before .if1 .left)), c .before .before .before .before .before .before .before .number-users .ensures, c .before .before .before .enter-certificates .ensures)
 
-returns-2 : tie.Need-returns-2 Inv-loop μ-loop
-unfolding firstRows decode
-returns-2 c =
-    let e : c .before .loop .i ≡ rowCount (c .before .before .before .before .before .before .args .state .now) = omega arith in
-    sym (c .before .loop .inv .1) ∙ ap (λ (m : ℕ). allOverEarlier (rowSound (worldAt (c .before .before .before .before .before .before .args .rules .now) (c .before .before .before .before .before .before .args .kinds .now) (c .before .before .before .before .before .before .args .state .now))) [] (firstRows (c .before .before .before .before .before .before .args .state .now) m)) e
+-- src/lib.rt:272:1
+returns-2 : tie.Need-returns-2
+returns-2 c = search needs
 
 pub rows-sound-spec : {M : Type 1} → statement M
 rows-sound-spec =
     tie.close
     (tie.spec
-    Inv-loop
-    μ-loop
-    shared-slice-read-n
-    cast-n
-    loop-holds
-    row-sound-requires
+    rows-in-range-requires
     returns
-    add-i
-    loop-less
-    loop-again
+    slice-aggregate-number-users
+    number-users-requires
+    slice-aggregate-enter-certificates
+    slice-aggregate-enter-certificates-2
+    enter-certificates-requires
+    slice-aggregate-each-row-sound
+    slice-aggregate-each-row-sound-2
+    each-row-sound-requires
     returns-2)

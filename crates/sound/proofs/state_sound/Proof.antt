@@ -10,6 +10,7 @@ use Rattle.table.specs.Entries.{without-rights, worldAt}
 use Rattle.policy.specs.Lent.{kindsOnly}
 use Rattle.policy.proofs.Clauses.{and-true, here, later, fails, passes}
 use Rattle.sound.proofs.Parts.{sized}
+use Rattle.sound.proofs.Ranges.{certificates-range, few-kinds}
 use Rattle.sound.proofs.Rights.{certificates-same}
 use borrow.Author.Needs.{needs}
 use Rattle.sound.proofs.state_sound.Statement.{statement}
@@ -30,7 +31,10 @@ certificates-sound-requires : tie.Need-certificates-sound-requires
 certificates-sound-requires c κs = sized (c .before .before .before .before .before .args .state .now) (sym (c .before .well-formed .ensures) ∙ not-false _ (c .if1 .left))
 
 rows-sound-requires : tie.Need-rows-sound-requires
-rows-sound-requires c κs = sized (c .before .before .before .before .before .before .before .args .state .now) (sym (c .before .before .before .well-formed .ensures) ∙ not-false _ (c .before .before .if1 .left))
+rows-sound-requires c κs = (
+  sized (c .before .before .before .before .before .before .before .args .state .now) (sym (c .before .before .before .well-formed .ensures) ∙ not-false _ (c .before .before .if1 .left)),
+  certificates-range (kindsOnly (c .before .before .before .before .before .before .before .args .kinds .now)) (c .before .before .before .before .before .before .before .args .state .now) (few-kinds (c .before .before .before .before .before .before .before .args .kinds .now) (c .before .before .before .before .before .before .before .pre)) (sym (c .before .certificates-sound .ensures) ∙ not-false _ (c .if2 .left)),
+)
 
 returns : tie.Need-returns
 returns c =

@@ -1,0 +1,71 @@
+-- What a sound state keeps of ranges.
+use Prim.Native.Nat.{ℕ, _+_, _/_, _≤_, _<_}
+use mathlib.Core.Path.{_≡_, refl, sym, ap, _∙_, subst, subst⁻¹}
+use mathlib.Core.Bool.{Bool, true, false, true≢false, not, _&&_}
+use mathlib.Core.List.{List, [], _∷_, _++_, List·Memᴰ}
+use native.Mathlib.Omega.{arith}
+use lib.Dec.{T, ltb, ltb→lt, lt→ltb}
+use lib.ListN.{length}
+use Rattle.model.specs.Lists.{all, every, allOverEarlier}
+use Rattle.model.specs.Records.{Tables, Policy, World, worldOf}
+use Rattle.model.specs.Layout.{decode, policyOf, kindFrom}
+use Rattle.model.specs.Sound.{rowClauses, rowSound, certificateClauses, certificateSound, wellFormed, soundRecords, sound}
+use Rattle.model.specs.declared.Row.{Row}
+use Rattle.model.specs.declared.Certificate.{Certificate}
+use Rattle.model.proofs.Tests.{is-true, of-true, and-left, and-right, each, of-each, all-of, of-all, earlier-of}
+use Rattle.table.specs.Entries.{Sized}
+use Rattle.table.proofs.Entries.{length-entries}
+use Rattle.index.specs.Indexed.{InRange}
+use Rattle.policy.specs.Lent.{kindsOnly}
+use Rattle.sound.specs.Ranges.{rangeClauses, rowInRange, CertificatesInRange}
+use Rattle.sound.proofs.Parts.{sized}
+
+row-range : (w : World) (earlier : List Row) (r : Row) → T (rowSound w earlier r) → T (rowInRange r)
+unfolding rowClauses rangeClauses
+row-range w earlier r t = let h = each (rowClauses w earlier r) t in of-each (rangeClauses r) (h .0, (h .1 .0, tt))
+
+rows-range : (w : World) (rows : List Row) → T (allOverEarlier (rowSound w) [] rows) → T (all rowInRange rows)
+rows-range w rows t = of-all rowInRange rows (λ r m. let f = earlier-of (rowSound w) [] rows t r m in row-range w ([] ++ f .0) r (f .3))
+
+-- rows out of range are not sound
+pub rows-out : (w : World) (rows : List Row) → all rowInRange rows ≡ false → allOverEarlier (rowSound w) [] rows ≡ false
+rows-out w rows e = go (allOverEarlier (rowSound w) [] rows) refl
+  where
+    go : (b : Bool) → allOverEarlier (rowSound w) [] rows ≡ b → allOverEarlier (rowSound w) [] rows ≡ false
+    go false q = q
+    go true q = absurd (true≢false (sym (is-true (all rowInRange rows) (rows-range w rows (of-true (allOverEarlier (rowSound w) [] rows) q))) ∙ e))
+
+row-bounds : (r : Row) → T (rowInRange r) → (r .user < 4096) × (r .role < 256)
+unfolding rangeClauses
+row-bounds r t = let h = each (rangeClauses r) t in (ltb→lt (r .user) 4096 (h .0), ltb→lt (r .role) 256 (h .1 .0))
+
+-- the rows are in range, and the certificates
+pub ranges : (s : List ℕ) → Sized s → CertificatesInRange s → all rowInRange (decode s .rows) ≡ true → InRange s
+ranges s z c e = record { sized = z; rows = λ r m. row-bounds r (all-of rowInRange (decode s .rows) (of-true (all rowInRange (decode s .rows)) e) r m); certificates = c .each }
+
+pub certificates-range : (p : Policy) (s : List ℕ) → length (p .kinds) ≤ 128 → allOverEarlier (certificateSound p) [] (decode s .certificates) ≡ true → CertificatesInRange s
+unfolding certificateClauses
+certificates-range p s few e =
+    record {
+      each = λ c m.
+          let f = earlier-of (certificateSound p) [] (decode s .certificates) (of-true (allOverEarlier (certificateSound p) [] (decode s .certificates)) e) c m in
+          let h = each (certificateClauses p ([] ++ f .0) c) (f .3) in
+          let k : c .kind < length (p .kinds) = ltb→lt (c .kind) (length (p .kinds)) (h .1 .0) in
+          (ltb→lt (c .appointee) 4096 (h .0), omega (arith, k));
+    }
+
+-- as many kinds as the table has whole rows
+pub few-kinds : (kinds : List ℕ) → length kinds / 7 ≤ 128 → length (kindsOnly kinds .kinds) ≤ 128
+unfolding policyOf
+few-kinds kinds h = omega (arith, h, length-entries kindFrom 7 kinds (length kinds / 7))
+
+-- a sound state keeps the ranges
+pub sound-in-range : (p : Policy) (s : List ℕ) → length (p .kinds) ≤ 128 → sound p s ≡ true → InRange s
+unfolding sound soundRecords
+sound-in-range p s few e =
+    let t = of-true (sound p s) e in
+    let f : T (wellFormed s) = and-left (wellFormed s) (soundRecords p (decode s)) t in
+    let r : T (soundRecords p (decode s)) = and-right (wellFormed s) (soundRecords p (decode s)) t in
+    let a = and-left (allOverEarlier (certificateSound p) [] (decode s .certificates)) (allOverEarlier (rowSound (worldOf p (decode s))) [] (decode s .rows)) r in
+    let b = and-right (allOverEarlier (certificateSound p) [] (decode s .certificates)) (allOverEarlier (rowSound (worldOf p (decode s))) [] (decode s .rows)) r in
+    ranges s (sized s (is-true (wellFormed s) f)) (certificates-range p s few (is-true (allOverEarlier (certificateSound p) [] (decode s .certificates)) a)) (is-true (all rowInRange (decode s .rows)) (rows-range (worldOf p (decode s)) (decode s .rows) b))

@@ -1,0 +1,70 @@
+-- Traces: a certificate whose trace is not marked is not among those that have marked theirs.
+use Prim.Native.Nat.{ℕ, _+_, _*_, _/_, _%_, _<_}
+use mathlib.Core.Path.{_≡_, refl, sym, ap, _∙_, subst, subst⁻¹}
+use mathlib.Core.Bool.{Bool, true, false, true≢false, _||_}
+use mathlib.Core.Logic.{_⊎_, inl, inr}
+use mathlib.Core.List.{List, [], _∷_, _++_, List·Memᴰ, List·Memᴰ·not-nil, List·Memᴰ·cases-cons, List·Memᴰ·head, List·Memᴰ·tail}
+use native.Mathlib.Omega.{arith}
+use lib.Dec.{T, eqb, eqb→eq}
+use lib.ListN.{length, replicate}
+use borrow.Author.Tests.{eq-eqb}
+use Rattle.model.specs.Lists.{any, every}
+use Rattle.model.specs.Sound.{sameCertificate}
+use Rattle.model.specs.Layout.{certificateFrom, certificateNumbers}
+use Rattle.model.specs.declared.Certificate.{Certificate}
+use Rattle.model.proofs.Tests.{is-true, of-true, any-of, each}
+use Rattle.table.specs.Entries.{certificateAt, firstCertificates}
+use Rattle.table.proofs.Entries.{entries-more}
+use Rattle.marks.specs.Marks.{marked, Marked}
+use Rattle.index.proofs.Indexing.{zeros, length-zeros}
+use Rattle.sound.specs.Traces.{trace, Traced}
+
+pub traced-none : Traced (zeros 1024) []
+traced-none = record { size = length-zeros 1024; left = λ c m. absurd (List·Memᴰ·not-nil m) }
+
+-- equal certificates leave the same trace
+same-trace : (c d : Certificate) → T (sameCertificate c d) → trace c ≡ trace d
+same-trace c d t =
+    let h = each (eqb (c .appointee) (d .appointee) ∷ eqb (c .kind) (d .kind) ∷ eqb (c .appointer) (d .appointer) ∷ []) t in
+    λ i. (eqb→eq (c .appointee) (d .appointee) (h .0) i * 128 + (eqb→eq (c .kind) (d .kind) (h .1 .0) i + eqb→eq (c .appointer) (d .appointer) (h .1 .1 .0) i * 61)) % 16384
+
+pub untraced : (traces : List ℕ) (certificates : List Certificate) (c : Certificate) → Traced traces certificates → marked traces (trace c) ≡ false → any (sameCertificate c) certificates ≡ false
+untraced traces certificates c t e = go (any (sameCertificate c) certificates) refl
+  where
+    go : (b : Bool) → any (sameCertificate c) certificates ≡ b → any (sameCertificate c) certificates ≡ false
+    go false q = q
+    go true q =
+        let found = any-of (sameCertificate c) certificates (of-true (any (sameCertificate c) certificates) q) in
+        absurd (true≢false (sym (t .left (found .0) (found .1)) ∙ ap (marked traces) (sym (same-trace c (found .0) (found .2))) ∙ e))
+
+-- a member of a list with one element more
+last-member : {A : Type 0} (xs : List A) (x y : A) → List·Memᴰ y (xs ++ (x ∷ [])) → List·Memᴰ y xs ⊎ (y ≡ x)
+last-member [] x y m = go (List·Memᴰ·cases-cons m)
+  where
+    go : (y ≡ x) ⊎ List·Memᴰ y [] → List·Memᴰ y [] ⊎ (y ≡ x)
+    go (inl e) = inr e
+    go (inr h) = inl h
+last-member {A = A} (z ∷ xs) x y m = go (last-member xs x y) (List·Memᴰ·cases-cons m)
+  where
+    on : List·Memᴰ y xs ⊎ (y ≡ x) → List·Memᴰ y (z ∷ xs) ⊎ (y ≡ x)
+    on (inl h) = inl (List·Memᴰ·tail h)
+    on (inr e) = inr e
+
+    go : (List·Memᴰ y (xs ++ (x ∷ [])) → List·Memᴰ y xs ⊎ (y ≡ x)) → (y ≡ z) ⊎ List·Memᴰ y (xs ++ (x ∷ [])) → List·Memᴰ y (z ∷ xs) ⊎ (y ≡ x)
+    go later (inl e) = inl (subst⁻¹ (λ (v : A). List·Memᴰ v (z ∷ xs)) e (List·Memᴰ·head refl))
+    go later (inr h) = on (later h)
+
+-- one certificate more has left its trace
+pub traced-on : (s traces traces′ : List ℕ) (i at : ℕ) (c : Certificate) → c ≡ certificateAt s i → at ≡ trace c → Traced traces (firstCertificates s i) → Marked traces traces′ at → Traced traces′ (firstCertificates s (i + 1))
+unfolding firstCertificates certificateAt
+traced-on s traces traces′ i at c e a t m =
+    subst⁻¹ (λ (l : List Certificate). Traced traces′ l) (entries-more certificateFrom 3 (certificateNumbers s) i ∙ ap (λ (d : Certificate). firstCertificates s i ++ (d ∷ [])) (sym e))
+    (record { size = m .size ∙ t .size; left = λ d h. go d (last-member (firstCertificates s i) c d h) })
+  where
+    or-true : (b : Bool) → (b || true) ≡ true
+    or-true true = refl
+    or-true false = refl
+
+    go : (d : Certificate) → List·Memᴰ d (firstCertificates s i) ⊎ (d ≡ c) → marked traces′ (trace d) ≡ true
+    go d (inl h) = m .marks (trace d) ∙ ap (λ (b : Bool). eqb (trace d) at || b) (t .left d h) ∙ or-true (eqb (trace d) at)
+    go d (inr q) = m .marks (trace d) ∙ ap (λ (b : Bool). b || marked traces (trace d)) (eq-eqb (trace d) at (ap trace q ∙ sym a))
