@@ -17,6 +17,10 @@ use Rattle.model.proofs.Sweep.{left-last}
 use Rattle.model.proofs.Tests.{lt-or-ge}
 use Rattle.table.specs.Entries.{rowAt, firstRows, without-rights, worldAt, Sized}
 use Rattle.table.proofs.Entries.{entries-more, length-entries}
+use Rattle.model.specs.declared.Certificate.{Certificate}
+use Rattle.marks.specs.Marks.{Marked}
+use Rattle.index.specs.Indexed.{baseOf, Indexed}
+use Rattle.index.proofs.Indexing.{row-entered}
 use Rattle.fall.specs.Writes.{Moved, Zeroed}
 use Rattle.fall.specs.Changes.{rowPlace, Judged, Swept, Closed, Left}
 use Rattle.fall.proofs.Form.{Formed, as-encoded, facts-same, certificates-same, row-same, rows-same}
@@ -34,26 +38,41 @@ swept-sized ok s₀ s i w z h p =
       certificates = subst⁻¹ (λ (n : ℕ). n ≤ 256) (p .above 833 (omega arith)) (z .certificates);
     }
 
+pub swept-certificates : (ok : List Row → Row → Bool) (s₀ s : List ℕ) (i w : ℕ) → i ≤ 256 → Swept ok s₀ s i w → decode s .certificates ≡ decode s₀ .certificates
+swept-certificates ok s₀ s i w h p = certificates-same s₀ s (p .size) (λ k l. p .above k (omega arith))
+
 -- and so conditions are judged against the same world throughout
 pub swept-world : (rules kinds : List ℕ) (ok : List Row → Row → Bool) (s₀ s : List ℕ) (i w : ℕ) → i ≤ 256 → Swept ok s₀ s i w → worldAt rules kinds s ≡ worldAt rules kinds s₀
 unfolding decode
 swept-world rules kinds ok s₀ s i w h p =
-    λ j. record { policy = policyOf (without-rights rules kinds); facts = facts-same s₀ s (p .size) (λ k l. p .below k (omega arith)) j; certificates = certificates-same s₀ s (p .size) (λ k l. p .above k (omega arith)) j }
+    λ j. record { policy = policyOf (without-rights rules kinds); facts = facts-same s₀ s (p .size) (λ k l. p .below k (omega arith)) j; certificates = swept-certificates ok s₀ s i w h p j }
 
 pub rows-more : (s : List ℕ) (k : ℕ) → firstRows s (k + 1) ≡ firstRows s k ++ (rowAt s k ∷ [])
 unfolding firstRows rowAt
 rows-more s k = entries-more rowFrom 3 (rowNumbers s) k
 
+-- a row moved behind the rows kept
+pub kept-rows : (s s′ : List ℕ) (w i : ℕ) → w ≤ i → i < 256 → Moved s s′ (rowPlace i) (rowPlace w) 3 → firstRows s′ (w + 1) ≡ firstRows s w ++ (rowAt s i ∷ [])
+kept-rows s s′ w i h l m = rows-more s′ w ∙ (λ k. rows-same s s′ w (omega arith) (λ j a b. m .below j b) k ++ (row-same s s′ i w l (omega arith) (λ j b. m .inside j b) k ∷ []))
+
+-- what is yet to be judged stands as it stood
+pub swept-row : (ok : List Row → Row → Bool) (s₀ s : List ℕ) (i w : ℕ) → i < 256 → Swept ok s₀ s i w → rowAt s i ≡ rowAt s₀ i
+swept-row ok s₀ s i w h p = row-same s₀ s i i h h (λ k l. p .above (i * 3 + 65 + k) (omega arith))
+
+-- a row that stays is entered
+pub row-kept : (numbers words words′ s s′ : List ℕ) (w i base q : ℕ) (certificates : List Certificate) (r : Row) → w ≤ i → i < 256 → r ≡ rowAt s i → r .role < 256 → base ≡ baseOf numbers (r .user) → q ≡ r .role
+    → Indexed numbers words (firstRows s w) certificates → Marked words words′ (base + q) → Moved s s′ (rowPlace i) (rowPlace w) 3 → Indexed numbers words′ (firstRows s′ (w + 1)) certificates
+row-kept numbers words words′ s s′ w i base q certificates r h l e k b d x m v =
+    subst⁻¹ (λ (rows : List Row). Indexed numbers words′ rows certificates) (kept-rows s s′ w i h l v ∙ ap (λ (y : Row). firstRows s w ++ (y ∷ [])) (sym e))
+    (row-entered numbers words (firstRows s w) certificates x words′ r k (subst (λ (n : ℕ). Marked words words′ n) (λ j. b j + d j) m))
+
 -- one row more is judged
 pub swept-more : (ok : List Row → Row → Bool) (s₀ s s′ : List ℕ) (i w kept : ℕ) → i < 256 → Swept ok s₀ s i w → Judged (ok (firstRows s w) (rowAt s i)) s s′ w i kept → Swept ok s₀ s′ (i + 1) kept
 swept-more ok s₀ s s′ i w kept h p j = go (ok (firstRows s w) (rowAt s i)) refl
   where
-    same-row : rowAt s i ≡ rowAt s₀ i
-    same-row = row-same s₀ s i i h h (λ k l. p .above (i * 3 + 65 + k) (omega arith))
-
     -- what is left of one row more
     left-more : left ok (firstRows s₀ (i + 1)) ≡ cond (ok (firstRows s w) (rowAt s i)) (firstRows s w ++ (rowAt s i ∷ [])) (firstRows s w)
-    left-more = ap (left ok) (rows-more s₀ i) ∙ left-last ok (firstRows s₀ i) (rowAt s₀ i) ∙ (λ k. keep ok (sym (p .rows) k) (sym same-row k))
+    left-more = ap (left ok) (rows-more s₀ i) ∙ left-last ok (firstRows s₀ i) (rowAt s₀ i) ∙ (λ k. keep ok (sym (p .rows) k) (sym (swept-row ok s₀ s i w h p) k))
 
     stays : ok (firstRows s w) (rowAt s i) ≡ true → Moved s s′ (rowPlace i) (rowPlace w) 3 × (kept ≡ w + 1) → Swept ok s₀ s′ (i + 1) kept
     stays e m =
@@ -64,8 +83,7 @@ swept-more ok s₀ s s′ i w kept h p j = go (ok (firstRows s w) (rowAt s i)) r
           above = λ k l. m .0 .above k (omega (arith, p .within)) ∙ p .above k (omega arith);
           rows =
               ap (firstRows s′) (m .1)
-              ∙ rows-more s′ w
-              ∙ (λ k. rows-same s s′ w (omega (arith, p .within)) (λ j a b. m .0 .below j b) k ++ (row-same s s′ i w h (omega (arith, p .within)) (λ j l. m .0 .inside j l) k ∷ []))
+              ∙ kept-rows s s′ w i (p .within) h (m .0)
               ∙ sym (left-more ∙ ap (λ (b : Bool). cond b (firstRows s w ++ (rowAt s i ∷ [])) (firstRows s w)) e);
         }
 

@@ -9,7 +9,8 @@ use Rattle.model.specs.Calls.{ofUser}
 use Rattle.model.specs.declared.Row.{Row}
 use Rattle.fall.specs.Changes.{Closed, Left}
 use Rattle.fall.proofs.Form.{Formed, formed, sized}
-use Rattle.fall.proofs.Swept.{Swept, swept-none, swept-more, swept-sized, swept-closed, left-without}
+use Rattle.fall.specs.Changes.{Swept}
+use Rattle.fall.proofs.Swept.{swept-none, swept-more, swept-sized, swept-closed, left-without}
 use borrow.Author.Needs.{needs}
 use Rattle.fall.proofs.drop_user.Statement.{statement}
 use Rattle.fall.proofs.drop_user.Tie as tie
