@@ -23,7 +23,7 @@ use Rattle.table.proofs.Entries.{entry-member, entries-more}
 use Rattle.marks.specs.Marks.{bit, marked, Marked}
 use Rattle.marks.proofs.Bits.{eq-or-ne}
 use Rattle.index.specs.Marked.{Room, block, supportedBy, satisfiedBy}
-use Rattle.index.specs.Indexed.{InRange, baseOf, Apart, Numbered, Indexed}
+use Rattle.index.specs.Indexed.{InRange, baseOf, Apart, Numbered, Alone, Indexed}
 use Rattle.index.proofs.Holding.{Says, supported-said, satisfied-said}
 
 -- ── ranges, by places ──
@@ -102,6 +102,33 @@ numbering-end s numbers few n =
         go zero e = omega (arith, e)
         go (suc x) e = omega (arith, n .owner u (omega (arith, e)) .0)
 
+-- one user alone
+pub alone : (v : ℕ) → v < 4096 → Alone v (set (zeros 4096) v 1)
+alone v h = record { size = length-set (zeros 4096) v 1 ∙ length-zeros 4096; apart = apart; most = most; own = getD-set-same (zeros 4096) v 1 0 (omega (arith, length-zeros 4096)) }
+  where
+    number : (u : ℕ) → ((u ≡ v) × (getD (set (zeros 4096) v 1) u 0 ≡ 1)) ⊎ (getD (set (zeros 4096) v 1) u 0 ≡ 0)
+    number u = go (eq-or-ne u v)
+      where
+        go : (u ≡ v) ⊎ (u ≢ v) → ((u ≡ v) × (getD (set (zeros 4096) v 1) u 0 ≡ 1)) ⊎ (getD (set (zeros 4096) v 1) u 0 ≡ 0)
+        go (inl q) = inl (q, ap (λ (x : ℕ). getD (set (zeros 4096) v 1) x 0) q ∙ getD-set-same (zeros 4096) v 1 0 (omega (arith, length-zeros 4096)))
+        go (inr q) = inr (getD-set-other (zeros 4096) v u 1 0 q ∙ getD-zeros 4096 u)
+
+    apart : Apart (set (zeros 4096) v 1)
+    apart u w p e = go (number u) (number w)
+      where
+        go : ((u ≡ v) × (getD (set (zeros 4096) v 1) u 0 ≡ 1)) ⊎ (getD (set (zeros 4096) v 1) u 0 ≡ 0)
+            → ((w ≡ v) × (getD (set (zeros 4096) v 1) w 0 ≡ 1)) ⊎ (getD (set (zeros 4096) v 1) w 0 ≡ 0) → u ≡ w
+        go (inl a) (inl b) = a .0 ∙ sym (b .0)
+        go (inl a) (inr b) = absurd (omega (arith, a .1, b, e))
+        go (inr a) b = absurd (omega (arith, a, p))
+
+    most : (u : ℕ) → getD (set (zeros 4096) v 1) u 0 ≤ 1
+    most u = go (number u)
+      where
+        go : ((u ≡ v) × (getD (set (zeros 4096) v 1) u 0 ≡ 1)) ⊎ (getD (set (zeros 4096) v 1) u 0 ≡ 0) → getD (set (zeros 4096) v 1) u 0 ≤ 1
+        go (inl a) = omega (arith, a .1)
+        go (inr a) = omega (arith, a)
+
 -- ── marks ──
 
 nothing-marked : (n x : ℕ) → marked (zeros n) x ≡ false
@@ -129,31 +156,8 @@ pub indexed-state : (s numbers : List ℕ) → Numbered s numbers → Indexed nu
 indexed-state s numbers n = indexed-none numbers 6168 (n .size) (n .apart) (λ u. record { inside = omega (arith, n .most u, length-zeros 6168); most = omega (arith, n .most u) })
 
 -- one user has a number, and two blocks
-pub indexed-user : (v : ℕ) → v < 4096 → Indexed (set (zeros 4096) v 1) (zeros 48) [] []
-indexed-user v h = indexed-none (set (zeros 4096) v 1) 48 (length-set (zeros 4096) v 1 ∙ length-zeros 4096) apart room
-  where
-    number : (u : ℕ) → ((u ≡ v) × (getD (set (zeros 4096) v 1) u 0 ≡ 1)) ⊎ (getD (set (zeros 4096) v 1) u 0 ≡ 0)
-    number u = go (eq-or-ne u v)
-      where
-        go : (u ≡ v) ⊎ (u ≢ v) → ((u ≡ v) × (getD (set (zeros 4096) v 1) u 0 ≡ 1)) ⊎ (getD (set (zeros 4096) v 1) u 0 ≡ 0)
-        go (inl q) = inl (q, ap (λ (x : ℕ). getD (set (zeros 4096) v 1) x 0) q ∙ getD-set-same (zeros 4096) v 1 0 (omega (arith, length-zeros 4096)))
-        go (inr q) = inr (getD-set-other (zeros 4096) v u 1 0 q ∙ getD-zeros 4096 u)
-
-    apart : Apart (set (zeros 4096) v 1)
-    apart u w p e = go (number u) (number w)
-      where
-        go : ((u ≡ v) × (getD (set (zeros 4096) v 1) u 0 ≡ 1)) ⊎ (getD (set (zeros 4096) v 1) u 0 ≡ 0)
-            → ((w ≡ v) × (getD (set (zeros 4096) v 1) w 0 ≡ 1)) ⊎ (getD (set (zeros 4096) v 1) w 0 ≡ 0) → u ≡ w
-        go (inl a) (inl b) = a .0 ∙ sym (b .0)
-        go (inl a) (inr b) = absurd (omega (arith, a .1, b, e))
-        go (inr a) b = absurd (omega (arith, a, p))
-
-    room : (u : ℕ) → Room (zeros 48) (baseOf (set (zeros 4096) v 1) u)
-    room u = go (number u)
-      where
-        go : ((u ≡ v) × (getD (set (zeros 4096) v 1) u 0 ≡ 1)) ⊎ (getD (set (zeros 4096) v 1) u 0 ≡ 0) → Room (zeros 48) (baseOf (set (zeros 4096) v 1) u)
-        go (inl a) = record { inside = omega (arith, a .1, length-zeros 48); most = omega (arith, a .1) }
-        go (inr a) = record { inside = omega (arith, a, length-zeros 48); most = omega (arith, a) }
+pub indexed-user : (v : ℕ) (numbers : List ℕ) → Alone v numbers → Indexed numbers (zeros 48) [] []
+indexed-user v numbers n = indexed-none numbers 48 (n .size) (n .apart) (λ u. record { inside = omega (arith, n .most u, length-zeros 48); most = omega (arith, n .most u) })
 
 pub says : (numbers words : List ℕ) (rows : List Row) (certificates : List Certificate) → Indexed numbers words rows certificates → (u : ℕ) → 0 < getD numbers u 0 → Says (block words (baseOf numbers u)) rows certificates u
 says numbers words rows certificates x u h = record { roles-said = λ q l. x .roles-marked u q h l; kinds-said = λ k l. x .kinds-marked u k h l; beyond = x .beyond u }

@@ -34,6 +34,13 @@ pub record Numbered (s numbers : List ℕ) : Type 0 where
   pub most : (u : ℕ) → getD numbers u 0 ≤ mostRows
   pub known : (i : ℕ) → i < rowCount s → 0 < getD numbers (rowAt s i .user) 0
 
+-- this user has number 1, and nobody else has one
+pub record Alone (u : ℕ) (numbers : List ℕ) : Type 0 where
+  pub size : length numbers ≡ users
+  pub apart : Apart numbers
+  pub most : (v : ℕ) → getD numbers v 0 ≤ 1
+  pub own : getD numbers u 0 ≡ 1
+
 -- the blocks of all that have a number say what these rows and certificates say
 pub record Indexed (numbers words : List ℕ) (rows : List Row) (certificates : List Certificate) : Type 0 where
   pub size : length numbers ≡ users

@@ -12,7 +12,7 @@ ghost use Rattle.model.specs.Layout.{decode, policyOf, factNumbers};
 ghost use Rattle.model.specs.Conditions.{meant, prerequisiteRoles, kindNumbered};
 ghost use Rattle.table.specs.Entries.{ruleAt, worldAt, without-rights, Sized};
 ghost use Rattle.index.specs.Marked.{Room, block, roleMarked, holdsBy, allHoldBy, supportedBy, satisfiedBy};
-ghost use Rattle.index.specs.Indexed.{InRange, baseOf, Numbered, Indexed};
+ghost use Rattle.index.specs.Indexed.{InRange, baseOf, Numbered, Alone, Indexed};
 use model::Row;
 
 const ROLES: u16 = 256;
@@ -179,6 +179,14 @@ pub fn number_users(state: &[u16], numbers: &mut [u16])
         i += 1;
         numbers[table::wide(row.user)] = i as u16;
     }
+}
+
+// The user alone gets a number.
+pub fn number_user(user: u16, numbers: &mut [u16])
+    requires { ⌜ (user < users) × (now numbers ≡ replicate users 0) ⌝ }
+    ensures { λ r. ⌜ Alone user (now (numbers .exit)) ⌝ }
+{
+    numbers[table::wide(user)] = 1;
 }
 
 // Each certificate is marked in the block of its appointee.

@@ -19,6 +19,8 @@ use Rattle.model.specs.declared.Answer.{Answer}
 use Rattle.model.proofs.Numbers.{sound-formed}
 use Rattle.table.specs.Entries.{firstRows, Sized}
 use Rattle.table.proofs.Entries.{length-entries}
+use Rattle.index.specs.Indexed.{InRange}
+use Rattle.sound.proofs.Ranges.{sound-in-range}
 use Rattle.fall.proofs.Form.{formed, sized}
 use Rattle.inner.specs.Lent.{lent, AnswersWith}
 use Rattle.model.proofs.Tests.{is-true, of-true, of-false, not-not-of, Each, each, of-each}
@@ -107,3 +109,8 @@ module _ (t : Tables) (s list : List ℕ) (h : Sound t s) (c : Call) (course : C
   pub own-accepts : (r : Answer) (s′ list′ : List ℕ) → r .code ≡ 0 → FirstApplies (course .refusals) 0 → r .second ≡ course .effect .second → s′ ≡ encode (course .effect .state) → list′ ≡ course .effect .list → AnswersWith t s list c r s′ list′
   unfolding judgedFirst
   own-accepts r s′ list′ z f a b l = accepts t s list c r s′ list′ z (own f) (a ∙ ap (λ (x : Course). x .effect .second) (sym is)) (b ∙ ap (λ (x : Course). encode (x .effect .state)) (sym is)) (l ∙ ap (λ (x : Course). x .effect .list) (sym is))
+
+-- a sound state keeps the ranges
+pub sound-range : (t : Tables) (s : List ℕ) → Sound t s → InRange s
+unfolding policyClauses
+sound-range t s h = sound-in-range (policyOf t) s (leb→le (length (policyOf t .kinds)) 128 (each (policyClauses t) (h .policy) .1 .1 .1 .1 .0)) (is-true (sound (policyOf t) s) (h .state))

@@ -1,8 +1,9 @@
 -- Revoke, withdraw, environment and logout: what goes, what falls with it, and that the code's answers are the model's.
-use Prim.Native.Nat.{ℕ, suc, _+_, _≤_, _<_, _/_}
+use Prim.Native.Nat.{ℕ, zero, suc, _+_, _≤_, _<_, _/_}
 use mathlib.Core.Path.{_≡_, refl, sym, ap, _∙_, subst, subst⁻¹}
 use mathlib.Core.Bool.{Bool, true, false, not, _||_, cond}
-use mathlib.Core.List.{List, [], _∷_, _++_, List·Memᴰ, Memᴰ·append-right, List·Memᴰ·head}
+use mathlib.Core.Logic.{_⊎_, inl, inr}
+use mathlib.Core.List.{List, [], _∷_, _++_, List·Memᴰ, Memᴰ·append-right, List·Memᴰ·head, List·Memᴰ·tail, List·Memᴰ·cases-cons}
 use native.Mathlib.Omega.{arith}
 use lib.Dec.{T, eqb, ltb, eqb→eq, lt→ltb, le→leb}
 use lib.ListN.{length, take, drop, length-take, length-drop, length-append}
@@ -27,7 +28,9 @@ use Rattle.model.proofs.Kept.{sound-certificates, fact-fits}
 use Rattle.table.specs.Entries.{worldAt, without-rights}
 use Rattle.table.proofs.Entries.{length-entries}
 use Rattle.table.proofs.Worlds.{supported-same}
+use Rattle.index.specs.Indexed.{InRange}
 use Rattle.fall.specs.Changes.{Left}
+use Rattle.fall.proofs.Form.{formed, sized}
 use Rattle.inner.specs.Lent.{lent, Answers, Fallen, fallenRows}
 use Rattle.inner.proofs.First.{found-any, not-found}
 use Rattle.inner.proofs.Codes.{own-refuses, own-accepts, out-of-range, in-range, found, certificate-length}
@@ -36,6 +39,27 @@ use Rattle.inner.proofs.Codes.{own-refuses, own-accepts, out-of-range, 
 
 pub encoded-formed : (s₁ : List ℕ) (v : State) → s₁ ≡ encode v → Fits v → wellFormed s₁ ≡ true
 encoded-formed s₁ v e f = is-true (wellFormed s₁) (subst⁻¹ (λ (l : List ℕ). T (wellFormed l)) e (encode-formed v f))
+
+-- what is changed holds no row and no certificate that was not there
+pub encoded-in-range : (s s₁ : List ℕ) (v : State) → s₁ ≡ encode v → Fits v → InRange s → ((r : Row) → List·Memᴰ r (v .rows) → List·Memᴰ r (decode s .rows)) → ((c : Certificate) → List·Memᴰ c (v .certificates) → List·Memᴰ c (decode s .certificates)) → InRange s₁
+encoded-in-range s s₁ v e f r a b =
+    let q : decode s₁ ≡ v = ap decode e ∙ decode-encode v f in
+    record {
+      sized = sized s₁ (formed s₁ (encoded-formed s₁ v e f));
+      rows = λ x m. r .rows x (a x (subst (λ (y : State). List·Memᴰ x (y .rows)) q m));
+      certificates = λ x m. r .certificates x (b x (subst (λ (y : State). List·Memᴰ x (y .certificates)) q m));
+    }
+
+-- a list with one element left out
+pub one-less-member : {A : Type 0} (xs : List A) (j : ℕ) (x : A) → List·Memᴰ x (take j xs ++ drop (suc j) xs) → List·Memᴰ x xs
+one-less-member [] zero x m = m
+one-less-member [] (suc j) x m = m
+one-less-member (y ∷ xs) zero x m = List·Memᴰ·tail m
+one-less-member (y ∷ xs) (suc j) x m = go (one-less-member xs j x) (List·Memᴰ·cases-cons m)
+  where
+    go : (List·Memᴰ x (take j xs ++ drop (suc j) xs) → List·Memᴰ x xs) → (x ≡ y) ⊎ List·Memᴰ x (take j xs ++ drop (suc j) xs) → List·Memᴰ x (y ∷ xs)
+    go deeper (inl e) = List·Memᴰ·head e
+    go deeper (inr h) = List·Memᴰ·tail (deeper h)
 
 pub fallen-after : (rules kinds s₁ s′ : List ℕ) (v : State) (lost : ℕ) → s₁ ≡ encode v → Fits v → Left s₁ s′ (left (supported (worldAt rules kinds s₁)) (decode s₁ .rows)) lost → Fallen rules kinds v s′ lost
 fallen-after rules kinds s₁ s′ v lost e f l =

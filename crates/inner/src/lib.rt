@@ -5,7 +5,7 @@ ghost use mathlib.Core.List.{[], _++_};
 ghost use Prim.Native.Nat.{suc, _<_};
 ghost use lib.ListN.{length, take, drop};
 ghost use Rattle.model.specs.Lists.{firstPlace};
-ghost use Rattle.model.specs.Limits.{stateSize};
+ghost use Rattle.model.specs.Limits.{users, stateSize};
 ghost use Rattle.model.specs.Records.{withCertificates};
 ghost use Rattle.model.specs.Layout.{decode, policyOf, certificateCount};
 ghost use Rattle.model.specs.Conditions.{satisfied, kindNumbered};
@@ -13,6 +13,8 @@ ghost use Rattle.model.specs.Sound.{wellFormed, sameCertificate};
 ghost use Rattle.model.specs.Calls.{fresh as freshCall, activate as activateCall, appoint as appointCall, revoke as revokeCall, withdraw as withdrawCall, environment as environmentCall, logout as logoutCall, mayRevoke};
 ghost use Rattle.model.specs.Words.{Sound};
 ghost use Rattle.table.specs.Entries.{worldAt, without-rights, Sized};
+ghost use Rattle.index.specs.Marked.{Room, block, satisfiedBy};
+ghost use Rattle.index.specs.Indexed.{InRange};
 ghost use Rattle.inner.specs.Lent.{lent, Answers, Fallen};
 use model::Answer;
 use model::Certificate;
@@ -34,26 +36,42 @@ const RULE_WIDTH: usize = 11;
 
 const KIND_WIDTH: usize = 7;
 
+const BLOCK: usize = 384;
+
 pub fn refused(code: u16) -> Answer
     ensures { λ r. ⌜ (r .code ≡ code) × (r .second ≡ 0) ⌝ }
 {
     Answer { code, second: 0 }
 }
 
-// The lowest rule for the role whose conditions all hold for the user, or the number of rules if there is none.
-fn lowest_rule(rules: &[u16], kinds: &[u16], state: &[u16], user: u16, role: u16) -> usize
-    requires { ⌜ Sized (now state) ⌝ }
-    ensures { λ r. ⌜ r ≡ firstPlace (satisfied (worldAt (now (rules .entry)) (now (kinds .entry)) (now (state .entry))) (decode (now (state .entry)) .rows) user role) (policyOf (without-rights (now (rules .entry)) (now (kinds .entry))) .rules) ⌝ }
+// The lowest rule for the role whose conditions all hold by the marks of block 1, or the number of rules if there is none.
+fn lowest_marked(rules: &[u16], kinds: &[u16], state: &[u16], words: &[u16], role: u16) -> usize
+    requires { ⌜ Sized (now state) × Room (now words) 384 ⌝ }
+    ensures { λ r. ⌜ r ≡ firstPlace (satisfiedBy (block (now (words .entry)) 384) (worldAt (now (rules .entry)) (now (kinds .entry)) (now (state .entry))) role) (policyOf (without-rights (now (rules .entry)) (now (kinds .entry))) .rules) ⌝ }
 {
     let n = rules.len() / RULE_WIDTH;
     let mut i: usize = 0;
     while i < n {
-        if table::rule_satisfied(rules, kinds, state, user, role, i) {
+        if index::rule_satisfied(rules, kinds, state, words, BLOCK, role, i) {
             return i;
         }
         i += 1;
     }
     i
+}
+
+// The lowest rule for the role whose conditions all hold for the user, or the number of rules if there is none. Only the user's own
+// block is asked, so all others share block 0.
+fn lowest_rule(rules: &[u16], kinds: &[u16], state: &[u16], user: u16, role: u16) -> usize
+    requires { ⌜ InRange (now state) × (user < users) ⌝ }
+    ensures { λ r. ⌜ r ≡ firstPlace (satisfied (worldAt (now (rules .entry)) (now (kinds .entry)) (now (state .entry))) (decode (now (state .entry)) .rows) user role) (policyOf (without-rights (now (rules .entry)) (now (kinds .entry))) .rules) ⌝ }
+{
+    let mut numbers = [0u16; 4096];
+    index::number_user(user, &mut numbers);
+    let mut words = [0u16; 48];
+    index::enter_certificates(state, &numbers, &mut words);
+    index::enter_rows(state, &numbers, &mut words);
+    lowest_marked(rules, kinds, state, &words, role)
 }
 
 // Where the certificate stands, or the number of certificates if it does not.
@@ -161,7 +179,7 @@ pub fn appoint(
 
 // Certificate j goes, and the rows that lose their support fall. Returns how many rows were lost.
 fn take_certificate(rules: &[u16], kinds: &[u16], state: &mut [u16], j: usize) -> u16
-    requires { ⌜ (wellFormed (now state) ≡ true) × (j < certificateCount (now state)) ⌝ }
+    requires { ⌜ (wellFormed (now state) ≡ true) × InRange (now state) × (j < certificateCount (now state)) ⌝ }
     ensures { λ r. ⌜ Fallen (now (rules .entry)) (now (kinds .entry)) (withCertificates (decode (now (state .entry))) (take j (decode (now (state .entry)) .certificates) ++ drop (suc j) (decode (now (state .entry)) .certificates))) (now (state .exit)) r ⌝ }
 {
     change::remove_certificate(state, j);

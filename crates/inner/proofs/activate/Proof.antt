@@ -1,19 +1,17 @@
 use mathlib.Core.Path.{refl, sym, _∙_}
 use native.Mathlib.Omega.{arith}
-use Rattle.inner.proofs.Codes.{sound-form, sound-sized, sound-rules, active-now}
+use Rattle.inner.proofs.Codes.{sound-form, sound-sized, sound-range, sound-rules, active-now}
 use Rattle.inner.proofs.Activation.{no-user, no-role, is-held, no-rule, no-room, granted}
 use borrow.Author.Needs.{needs}
 use Rattle.inner.proofs.activate.Statement.{statement}
 use Rattle.inner.proofs.activate.Tie as tie
 
--- src/lib.rt:94:9
 refused-requires : tie.Need-refused-requires
 refused-requires c κs = search needs
 
 returns : tie.Need-returns
 returns c = no-user (c .before .before .before .before .before .before .args .rules .now) (c .before .before .before .before .before .before .args .kinds .now) (c .before .before .before .before .before .before .args .rights .now) (c .before .before .before .before .before .before .args .state .now) (c .before .before .before .before .before .before .pre) (c .before .before .before .before .before .before .args .user) (c .before .before .before .before .before .before .args .role) (c .refused .result) (c .refused .ensures) (c .before .if1 .taken)
 
--- src/lib.rt:97:9
 refused-requires-2 : tie.Need-refused-requires-2
 refused-requires-2 c κs = search needs
 
@@ -23,18 +21,15 @@ returns-2 c = no-role (c .before .before .before .before .before .before .before
 slice-read-wide : tie.Need-slice-read-wide
 slice-read-wide c = omega (arith, sound-sized _ (c .before .before .before .before .before .before .before .args .state .now) (c .before .before .before .before .before .before .before .pre) .size)
 
--- src/lib.rt:99:9
 wide-requires : tie.Need-wide-requires
 wide-requires c κs = search needs
 
 is-active-requires : tie.Need-is-active-requires
 is-active-requires c κs = (sound-sized _ (c .before .before .before .before .before .before .before .before .before .args .state .now) (c .before .before .before .before .before .before .before .before .before .pre) .size, omega (arith, c .before .wide .ensures, sound-sized _ (c .before .before .before .before .before .before .before .before .before .args .state .now) (c .before .before .before .before .before .before .before .before .before .pre) .rows))
 
--- src/lib.rt:101:9
 refused-requires-3 : tie.Need-refused-requires-3
 refused-requires-3 c κs = search needs
 
--- src/lib.rt:101:9
 same-length : tie.Need-same-length
 same-length c = search needs
 
@@ -42,24 +37,20 @@ returns-3 : tie.Need-returns-3
 returns-3 c = is-held (c .before .before .before .before .before .before .before .before .before .before .before .before .args .rules .now) (c .before .before .before .before .before .before .before .before .before .before .before .before .args .kinds .now) (c .before .before .before .before .before .before .before .before .before .before .before .before .args .rights .now) (c .before .before .before .before .before .before .before .before .before .before .before .before .args .state .now) (c .before .before .before .before .before .before .before .before .before .before .before .before .pre) (c .before .before .before .before .before .before .before .before .before .before .before .before .args .user) (c .before .before .before .before .before .before .before .before .before .before .before .before .args .role) (c .before .before .before .before .before .before .before .if1 .left) (c .before .before .before .before .before .before .if2 .left) (c .refused3 .result) (c .refused3 .ensures) (sym (active-now (c .before .before .before .before .before .before .before .before .before .before .before .before .args .state .now) (c .before .before .before .before .wide .result) (c .before .before .before .before .before .before .before .before .before .before .before .before .args .user) (c .before .before .before .before .before .before .before .before .before .before .before .before .args .role) (c .before .before .before .before .wide .ensures)) ∙ sym (c .before .before .is-active .ensures) ∙ c .before .if3 .taken)
 
 lowest-rule-requires : tie.Need-lowest-rule-requires
-lowest-rule-requires c κs = sound-sized _ (c .before .before .before .before .before .before .before .before .before .before .before .before .args .state .now) (c .before .before .before .before .before .before .before .before .before .before .before .before .pre)
+lowest-rule-requires c κs = (sound-range _ (c .before .before .before .before .before .before .before .before .before .before .before .before .args .state .now) (c .before .before .before .before .before .before .before .before .before .before .before .before .pre), omega arith)
 
--- src/lib.rt:105:9
 refused-requires-4 : tie.Need-refused-requires-4
 refused-requires-4 c κs = search needs
 
--- src/lib.rt:105:9
 same-length-2 : tie.Need-same-length-2
 same-length-2 c = search needs
 
 returns-4 : tie.Need-returns-4
 returns-4 c = no-rule (c .before .before .before .before .before .before .before .before .before .before .before .before .before .before .before .args .rules .now) (c .before .before .before .before .before .before .before .before .before .before .before .before .before .before .before .args .kinds .now) (c .before .before .before .before .before .before .before .before .before .before .before .before .before .before .before .args .rights .now) (c .before .before .before .before .before .before .before .before .before .before .before .before .before .before .before .args .state .now) (c .before .before .before .before .before .before .before .before .before .before .before .before .before .before .before .pre) (c .before .before .before .before .before .before .before .before .before .before .before .before .before .before .before .args .user) (c .before .before .before .before .before .before .before .before .before .before .before .before .before .before .before .args .role) (c .before .before .before .before .before .before .before .before .before .before .if1 .left) (c .before .before .before .before .before .before .before .before .before .if2 .left) (sym (active-now (c .before .before .before .before .before .before .before .before .before .before .before .before .before .before .before .args .state .now) (c .before .before .before .before .before .before .before .wide .result) (c .before .before .before .before .before .before .before .before .before .before .before .before .before .before .before .args .user) (c .before .before .before .before .before .before .before .before .before .before .before .before .before .before .before .args .role) (c .before .before .before .before .before .before .before .wide .ensures)) ∙ sym (c .before .before .before .before .before .is-active .ensures) ∙ c .before .before .before .before .if3 .left) (c .before .before .lowest-rule .result) (c .before .before .lowest-rule .ensures) (c .refused4 .result) (c .refused4 .ensures) (search needs)
 
--- src/lib.rt:108:9
 refused-requires-5 : tie.Need-refused-requires-5
 refused-requires-5 c κs = search needs
 
--- src/lib.rt:108:9
 same-length-3 : tie.Need-same-length-3
 same-length-3 c = search needs
 
@@ -72,7 +63,6 @@ cast-rule c = omega (arith, sound-rules (c .before .before .before .before .befo
 append-row-requires : tie.Need-append-row-requires
 append-row-requires c κs = (sound-form _ (c .before .before .before .before .before .before .before .before .before .before .before .before .before .before .before .before .args .state .now) (c .before .before .before .before .before .before .before .before .before .before .before .before .before .before .before .before .pre), omega (arith, c .before .before .before .before .before .before .before .before .wide .ensures))
 
--- src/lib.rt:89:1
 same-length-4 : tie.Need-same-length-4
 same-length-4 c = search needs
 

@@ -7,27 +7,24 @@ use borrow.Author.Tests.{le-ltb, lt-leb}
 use Rattle.model.specs.Lists.{isBit}
 use Rattle.model.specs.Records.{withFact}
 use Rattle.model.specs.Layout.{decode, encode}
-use Rattle.inner.proofs.Codes.{sound-form, out-of-range}
-use Rattle.inner.proofs.Falls.{encoded-formed, fallen-after, fact-set-fits, environment-out, environment-done}
+use Rattle.inner.proofs.Codes.{sound-form, sound-range, out-of-range}
+use Rattle.inner.proofs.Falls.{encoded-formed, encoded-in-range, fallen-after, fact-set-fits, environment-out, environment-done}
 use borrow.Author.Needs.{needs}
 use Rattle.inner.proofs.environment.Statement.{statement}
 use Rattle.inner.proofs.environment.Tie as tie
 
--- src/lib.rt:248:9
 refused-requires : tie.Need-refused-requires
 refused-requires c κs = search needs
 
 returns : tie.Need-returns
 returns c = environment-out (c .before .before .before .before .before .before .args .rules .now) (c .before .before .before .before .before .before .args .kinds .now) (c .before .before .before .before .before .before .args .rights .now) (c .before .before .before .before .before .before .args .state .now) (c .before .before .before .before .before .before .pre) (c .before .before .before .before .before .before .args .fact) (c .before .before .before .before .before .before .args .value) (c .refused .result) (c .refused .ensures) (out-of-range (ltb (c .before .before .before .before .before .before .args .fact) 64 ∷ isBit (c .before .before .before .before .before .before .args .value) ∷ []) 0 (le-ltb (c .before .before .before .before .before .before .args .fact) 64 (c .before .if1 .taken)))
 
--- src/lib.rt:251:9
 refused-requires-2 : tie.Need-refused-requires-2
 refused-requires-2 c κs = search needs
 
 returns-2 : tie.Need-returns-2
 returns-2 c = environment-out (c .before .before .before .before .before .before .before .args .rules .now) (c .before .before .before .before .before .before .before .args .kinds .now) (c .before .before .before .before .before .before .before .args .rights .now) (c .before .before .before .before .before .before .before .args .state .now) (c .before .before .before .before .before .before .before .pre) (c .before .before .before .before .before .before .before .args .fact) (c .before .before .before .before .before .before .before .args .value) (c .refused2 .result) (c .refused2 .ensures) (out-of-range (ltb (c .before .before .before .before .before .before .before .args .fact) 64 ∷ isBit (c .before .before .before .before .before .before .before .args .value) ∷ []) 1 (lt-leb (c .before .before .before .before .before .before .before .args .value) 1 (c .before .if2 .taken)))
 
--- src/lib.rt:253:29
 wide-requires : tie.Need-wide-requires
 wide-requires c κs = search needs
 
@@ -35,9 +32,11 @@ set-fact-requires : tie.Need-set-fact-requires
 set-fact-requires c κs = (sound-form _ (c .before .before .before .before .before .before .before .before .args .state .now) (c .before .before .before .before .before .before .before .before .pre), omega (arith, c .wide .ensures), omega arith)
 
 fall-requires : tie.Need-fall-requires
-fall-requires c κs = encoded-formed _ _ (c .before .before .before .set-fact .ensures) (fact-set-fits (c .before .before .before .before .before .before .before .before .before .before .before .before .args .rules .now) (c .before .before .before .before .before .before .before .before .before .before .before .before .args .kinds .now) (c .before .before .before .before .before .before .before .before .before .before .before .before .args .rights .now) (c .before .before .before .before .before .before .before .before .before .before .before .before .args .state .now) (c .before .before .before .before .before .before .before .before .before .before .before .before .pre) _ (c .before .before .before .before .before .before .before .before .before .before .before .before .args .value) (omega arith))
+fall-requires c κs = (
+  encoded-formed _ _ (c .before .before .before .set-fact .ensures) (fact-set-fits (c .before .before .before .before .before .before .before .before .before .before .before .before .args .rules .now) (c .before .before .before .before .before .before .before .before .before .before .before .before .args .kinds .now) (c .before .before .before .before .before .before .before .before .before .before .before .before .args .rights .now) (c .before .before .before .before .before .before .before .before .before .before .before .before .args .state .now) (c .before .before .before .before .before .before .before .before .before .before .before .before .pre) _ (c .before .before .before .before .before .before .before .before .before .before .before .before .args .value) (omega arith)),
+  encoded-in-range (c .before .before .before .before .before .before .before .before .before .before .before .before .args .state .now) _ _ (c .before .before .before .set-fact .ensures) (fact-set-fits (c .before .before .before .before .before .before .before .before .before .before .before .before .args .rules .now) (c .before .before .before .before .before .before .before .before .before .before .before .before .args .kinds .now) (c .before .before .before .before .before .before .before .before .before .before .before .before .args .rights .now) (c .before .before .before .before .before .before .before .before .before .before .before .before .args .state .now) (c .before .before .before .before .before .before .before .before .before .before .before .before .pre) _ (c .before .before .before .before .before .before .before .before .before .before .before .before .args .value) (omega arith)) (sound-range _ (c .before .before .before .before .before .before .before .before .before .before .before .before .args .state .now) (c .before .before .before .before .before .before .before .before .before .before .before .before .pre)) (λ r m. m) (λ x m. m),
+)
 
--- src/lib.rt:243:1
 same-length : tie.Need-same-length
 same-length c = search needs
 

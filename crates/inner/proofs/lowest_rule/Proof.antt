@@ -1,69 +1,71 @@
--- The invariant: no rule passed is satisfied.
-use Prim.Native.Nat.{ℕ, _/_, _≤_, _-_}
+use Prim.Native.Nat.{ℕ, _*_, _<_}
 use mathlib.Core.Path.{_≡_, refl, sym, ap, _∙_}
-use mathlib.Core.Bool.{Bool, false}
-use mathlib.Core.List.{List}
 use native.Mathlib.Omega.{arith}
-use lib.ListN.{length}
-use Rattle.model.specs.Lists.{any}
-use Rattle.model.specs.Layout.{decode, policyOf, ruleFrom}
-use Rattle.model.specs.Conditions.{satisfied}
+use lib.ListN.{getD}
+use Rattle.model.specs.Lists.{firstPlace}
+use Rattle.model.specs.Layout.{decode, policyOf}
 use Rattle.model.specs.declared.Rule.{Rule}
-use Rattle.table.specs.Entries.{entries, ruleAt, worldAt}
-use Rattle.table.proofs.Entries.{any-next}
-use Rattle.inner.proofs.First.{first-hit, first-missing}
+use Rattle.table.specs.Entries.{worldAt, without-rights}
+use Rattle.index.proofs.Indexing.{indexed-user, satisfied-there}
 use borrow.Author.Needs.{needs}
 use Rattle.inner.proofs.lowest_rule.Statement.{statement}
 use Rattle.inner.proofs.lowest_rule.Tie as tie
 
-abbrev test : List ℕ → List ℕ → List ℕ → ℕ → ℕ → Rule → Bool
-test rules kinds s u q = satisfied (worldAt rules kinds s) (decode s .rows) u q
+-- src/lib.rt:70:30
+slice-aggregate-number-user : tie.Need-slice-aggregate-number-user
+slice-aggregate-number-user c = search needs
 
-abbrev Inv-loop : tie.InvT-loop
-Inv-loop rules kinds state user role n i₀ i = (i ≤ n) × (any (test rules kinds state user role) (entries ruleFrom 11 rules i) ≡ false)
+number-user-requires : tie.Need-number-user-requires
+number-user-requires c κs = (c .before .before .before .before .pre .1, refl)
 
-abbrev μ-loop : tie.MeasureT-loop
-μ-loop rules kinds state user role n i₀ i = n - i
+-- src/lib.rt:72:38
+slice-aggregate-enter-certificates : tie.Need-slice-aggregate-enter-certificates
+slice-aggregate-enter-certificates c = search needs
 
-loop-holds : tie.Need-loop-holds Inv-loop μ-loop
-loop-holds c = (search needs, refl)
+-- src/lib.rt:72:48
+slice-aggregate-enter-certificates-2 : tie.Need-slice-aggregate-enter-certificates-2
+slice-aggregate-enter-certificates-2 c = search needs
 
--- src/lib.rt:53:12
-rule-satisfied-requires : tie.Need-rule-satisfied-requires Inv-loop μ-loop
-rule-satisfied-requires c κs = search needs
+enter-certificates-requires : tie.Need-enter-certificates-requires
+enter-certificates-requires c κs = (c .before .before .before .before .before .before .before .before .pre .0, indexed-user (c .before .before .before .before .before .before .before .before .args .user) _ (c .before .before .before .number-user .ensures))
 
-returns : tie.Need-returns Inv-loop μ-loop
-unfolding policyOf ruleAt
-returns c = sym (first-hit ruleFrom 11 (test (c .before .before .before .before .before .before .before .args .rules .now) (c .before .before .before .before .before .before .before .args .kinds .now) (c .before .before .before .before .before .before .before .args .state .now) (c .before .before .before .before .before .before .before .args .user) (c .before .before .before .before .before .before .before .args .role)) (c .before .before .before .before .before .before .before .args .rules .now) (length (c .before .before .before .before .before .before .before .args .rules .now) / 11) (c .before .before .before .loop .i) (search needs) (c .before .before .before .loop .inv .1) (sym (c .before .rule-satisfied .ensures) ∙ c .if1 .taken))
+-- src/lib.rt:73:30
+slice-aggregate-enter-rows : tie.Need-slice-aggregate-enter-rows
+slice-aggregate-enter-rows c = search needs
 
--- src/lib.rt:56:9
-add-i : tie.Need-add-i Inv-loop μ-loop
-add-i c = search needs
+-- src/lib.rt:73:40
+slice-aggregate-enter-rows-2 : tie.Need-slice-aggregate-enter-rows-2
+slice-aggregate-enter-rows-2 c = search needs
 
--- src/lib.rt:52:5
-loop-less : tie.Need-loop-less Inv-loop μ-loop
-loop-less c = search needs
+enter-rows-requires : tie.Need-enter-rows-requires
+enter-rows-requires c κs = (c .before .before .before .before .before .before .before .before .before .before .before .before .pre .0, c .before .before .before .enter-certificates .ensures)
 
-loop-again : tie.Need-loop-again Inv-loop μ-loop
-unfolding ruleAt
-loop-again c = (search needs, any-next ruleFrom 11 (test (c .before .before .before .before .before .before .before .args .rules .now) (c .before .before .before .before .before .before .before .args .kinds .now) (c .before .before .before .before .before .before .before .args .state .now) (c .before .before .before .before .before .before .before .args .user) (c .before .before .before .before .before .before .before .args .role)) (c .before .before .before .before .before .before .before .args .rules .now) (c .before .before .before .loop .i) (c .before .before .before .loop .inv .1) (sym (c .before .rule-satisfied .ensures) ∙ c .if1 .left))
+-- src/lib.rt:74:40
+slice-aggregate-lowest-marked : tie.Need-slice-aggregate-lowest-marked
+slice-aggregate-lowest-marked c = search needs
 
-returns-2 : tie.Need-returns-2 Inv-loop μ-loop
-unfolding policyOf
-returns-2 c =
-    let e : c .before .loop .i ≡ length (c .before .before .before .before .before .args .rules .now) / 11 = omega arith in
-    e ∙ sym (first-missing ruleFrom 11 (test (c .before .before .before .before .before .args .rules .now) (c .before .before .before .before .before .args .kinds .now) (c .before .before .before .before .before .args .state .now) (c .before .before .before .before .before .args .user) (c .before .before .before .before .before .args .role)) (c .before .before .before .before .before .args .rules .now) (length (c .before .before .before .before .before .args .rules .now) / 11) (ap (λ (n : ℕ). any (test (c .before .before .before .before .before .args .rules .now) (c .before .before .before .before .before .args .kinds .now) (c .before .before .before .before .before .args .state .now) (c .before .before .before .before .before .args .user) (c .before .before .before .before .before .args .role)) (entries ruleFrom 11 (c .before .before .before .before .before .args .rules .now) n)) (sym e) ∙ c .before .loop .inv .1))
+lowest-marked-requires : tie.Need-lowest-marked-requires
+lowest-marked-requires c κs = (c .before .before .before .before .before .before .before .before .before .before .before .before .before .before .before .pre .0 .sized, record { inside = omega (arith, c .before .before .before .before .before .before .before .before .before .before .number-user .ensures .own, c .before .before .enter-rows .ensures .room (c .before .before .before .before .before .before .before .before .before .before .before .before .before .before .before .args .user) .inside); most = omega arith })
+
+returns : tie.Need-returns
+returns c =
+    let e : 384 ≡ getD (c .before .before .before .before .before .before .before .before .before .before .before .number-user .last .1 .0) (c .before .before .before .before .before .before .before .before .before .before .before .before .before .before .before .before .args .user) 0 * 384 = omega (arith, c .before .before .before .before .before .before .before .before .before .before .before .number-user .ensures .own) in
+    let known : 0 < getD (c .before .before .before .before .before .before .before .before .before .before .before .number-user .last .1 .0) (c .before .before .before .before .before .before .before .before .before .before .before .before .before .before .before .before .args .user) 0 = omega (arith, c .before .before .before .before .before .before .before .before .before .before .before .number-user .ensures .own) in
+    c .lowest-marked .ensures
+    ∙ (λ i. firstPlace (λ (r : Rule). satisfied-there (c .before .before .before .before .before .before .before .before .before .before .before .number-user .last .1 .0) (c .before .before .before .enter-rows .last .1 .1 .0) (decode (c .before .before .before .before .before .before .before .before .before .before .before .before .before .before .before .before .args .state .now) .rows) (worldAt (c .before .before .before .before .before .before .before .before .before .before .before .before .before .before .before .before .args .rules .now) (c .before .before .before .before .before .before .before .before .before .before .before .before .before .before .before .before .args .kinds .now) (c .before .before .before .before .before .before .before .before .before .before .before .before .before .before .before .before .args .state .now)) (c .before .before .before .enter-rows .ensures) (c .before .before .before .before .before .before .before .before .before .before .before .before .before .before .before .before .args .user) 384 e known (c .before .before .before .before .before .before .before .before .before .before .before .before .before .before .before .before .args .role) r i) (policyOf (without-rights (c .before .before .before .before .before .before .before .before .before .before .before .before .before .before .before .before .args .rules .now) (c .before .before .before .before .before .before .before .before .before .before .before .before .before .before .before .before .args .kinds .now)) .rules))
 
 pub lowest-rule-spec : {M : Type 1} → statement M
 lowest-rule-spec =
     tie.close
     (tie.spec
-    Inv-loop
-    μ-loop
-    loop-holds
-    rule-satisfied-requires
-    returns
-    add-i
-    loop-less
-    loop-again
-    returns-2)
+    slice-aggregate-number-user
+    number-user-requires
+    slice-aggregate-enter-certificates
+    slice-aggregate-enter-certificates-2
+    enter-certificates-requires
+    slice-aggregate-enter-rows
+    slice-aggregate-enter-rows-2
+    enter-rows-requires
+    slice-aggregate-lowest-marked
+    lowest-marked-requires
+    returns)

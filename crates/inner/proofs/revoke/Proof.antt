@@ -5,38 +5,33 @@ use borrow.Author.Tests.{le-ltb, not-true, not-false}
 use Rattle.model.specs.Layout.{policyOf}
 use Rattle.model.specs.Calls.{isUser, hasRow}
 use Rattle.inner.specs.Lent.{lent}
-use Rattle.inner.proofs.Codes.{sound-form, sound-sized, out-of-range}
+use Rattle.inner.proofs.Codes.{sound-form, sound-range, sound-sized, out-of-range}
 use Rattle.inner.proofs.Falls.{no-kind, revoke-out, revoke-none, revoke-forbidden, revoke-done}
 use borrow.Author.Needs.{needs}
 use Rattle.inner.proofs.revoke.Statement.{statement}
 use Rattle.inner.proofs.revoke.Tie as tie
 
--- src/lib.rt:186:9
 refused-requires : tie.Need-refused-requires
 refused-requires c κs = search needs
 
 returns : tie.Need-returns
 returns c = revoke-out (c .before .before .before .before .before .before .args .rules .now) (c .before .before .before .before .before .before .args .kinds .now) (c .before .before .before .before .before .before .args .rights .now) (c .before .before .before .before .before .before .args .state .now) (c .before .before .before .before .before .before .pre) (c .before .before .before .before .before .before .args .caller) (c .before .before .before .before .before .before .args .appointee) (c .before .before .before .before .before .before .args .kind) (c .before .before .before .before .before .before .args .appointer) (c .refused .result) (c .refused .ensures) (out-of-range (isUser (c .before .before .before .before .before .before .args .caller) ∷ isUser (c .before .before .before .before .before .before .args .appointee) ∷ hasRow (policyOf (lent (c .before .before .before .before .before .before .args .rules .now) (c .before .before .before .before .before .before .args .kinds .now) (c .before .before .before .before .before .before .args .rights .now))) (c .before .before .before .before .before .before .args .kind) ∷ isUser (c .before .before .before .before .before .before .args .appointer) ∷ []) 0 (le-ltb (c .before .before .before .before .before .before .args .caller) 4096 (c .before .if1 .taken)))
 
--- src/lib.rt:189:9
 refused-requires-2 : tie.Need-refused-requires-2
 refused-requires-2 c κs = search needs
 
 returns-2 : tie.Need-returns-2
 returns-2 c = revoke-out (c .before .before .before .before .before .before .before .args .rules .now) (c .before .before .before .before .before .before .before .args .kinds .now) (c .before .before .before .before .before .before .before .args .rights .now) (c .before .before .before .before .before .before .before .args .state .now) (c .before .before .before .before .before .before .before .pre) (c .before .before .before .before .before .before .before .args .caller) (c .before .before .before .before .before .before .before .args .appointee) (c .before .before .before .before .before .before .before .args .kind) (c .before .before .before .before .before .before .before .args .appointer) (c .refused2 .result) (c .refused2 .ensures) (out-of-range (isUser (c .before .before .before .before .before .before .before .args .caller) ∷ isUser (c .before .before .before .before .before .before .before .args .appointee) ∷ hasRow (policyOf (lent (c .before .before .before .before .before .before .before .args .rules .now) (c .before .before .before .before .before .before .before .args .kinds .now) (c .before .before .before .before .before .before .before .args .rights .now))) (c .before .before .before .before .before .before .before .args .kind) ∷ isUser (c .before .before .before .before .before .before .before .args .appointer) ∷ []) 1 (le-ltb (c .before .before .before .before .before .before .before .args .appointee) 4096 (c .before .if2 .taken)))
 
--- src/lib.rt:191:36
 wide-requires : tie.Need-wide-requires
 wide-requires c κs = search needs
 
--- src/lib.rt:192:9
 refused-requires-3 : tie.Need-refused-requires-3
 refused-requires-3 c κs = search needs
 
 returns-3 : tie.Need-returns-3
 returns-3 c = revoke-out (c .before .before .before .before .before .before .before .before .before .args .rules .now) (c .before .before .before .before .before .before .before .before .before .args .kinds .now) (c .before .before .before .before .before .before .before .before .before .args .rights .now) (c .before .before .before .before .before .before .before .before .before .args .state .now) (c .before .before .before .before .before .before .before .before .before .pre) (c .before .before .before .before .before .before .before .before .before .args .caller) (c .before .before .before .before .before .before .before .before .before .args .appointee) (c .before .before .before .before .before .before .before .before .before .args .kind) (c .before .before .before .before .before .before .before .before .before .args .appointer) (c .refused3 .result) (c .refused3 .ensures) (out-of-range (isUser (c .before .before .before .before .before .before .before .before .before .args .caller) ∷ isUser (c .before .before .before .before .before .before .before .before .before .args .appointee) ∷ hasRow (policyOf (lent (c .before .before .before .before .before .before .before .before .before .args .rules .now) (c .before .before .before .before .before .before .before .before .before .args .kinds .now) (c .before .before .before .before .before .before .before .before .before .args .rights .now))) (c .before .before .before .before .before .before .before .before .before .args .kind) ∷ isUser (c .before .before .before .before .before .before .before .before .before .args .appointer) ∷ []) 2 (no-kind (c .before .before .before .before .before .before .before .before .before .args .rules .now) (c .before .before .before .before .before .before .before .before .before .args .kinds .now) (c .before .before .before .before .before .before .before .before .before .args .rights .now) (c .before .before .before .before .before .before .before .before .before .args .kind) (omega (arith, c .before .before .wide .ensures, c .before .if3 .taken))))
 
--- src/lib.rt:195:9
 refused-requires-4 : tie.Need-refused-requires-4
 refused-requires-4 c κs = search needs
 
@@ -49,15 +44,12 @@ find-certificate-requires c κs = sound-sized _ (c .before .before .before .befo
 slice-read-wide : tie.Need-slice-read-wide
 slice-read-wide c = omega (arith, sound-sized _ (c .before .before .before .before .before .before .before .before .before .before .before .before .args .state .now) (c .before .before .before .before .before .before .before .before .before .before .before .before .pre) .size)
 
--- src/lib.rt:205:8
 wide-requires-2 : tie.Need-wide-requires-2
 wide-requires-2 c κs = search needs
 
--- src/lib.rt:206:9
 refused-requires-5 : tie.Need-refused-requires-5
 refused-requires-5 c κs = search needs
 
--- src/lib.rt:206:9
 same-length : tie.Need-same-length
 same-length c = search needs
 
@@ -67,11 +59,9 @@ returns-5 c = revoke-none (c .before .before .before .before .before .before .be
 may-revoke-requires : tie.Need-may-revoke-requires
 may-revoke-requires c κs = sound-sized _ (c .before .before .before .before .before .before .before .before .before .before .before .before .before .before .before .args .state .now) (c .before .before .before .before .before .before .before .before .before .before .before .before .before .before .before .pre)
 
--- src/lib.rt:209:9
 refused-requires-6 : tie.Need-refused-requires-6
 refused-requires-6 c κs = search needs
 
--- src/lib.rt:209:9
 same-length-2 : tie.Need-same-length-2
 same-length-2 c = search needs
 
@@ -79,9 +69,8 @@ returns-6 : tie.Need-returns-6
 returns-6 c = revoke-forbidden (c .before .before .before .before .before .before .before .before .before .before .before .before .before .before .before .before .before .before .args .rules .now) (c .before .before .before .before .before .before .before .before .before .before .before .before .before .before .before .before .before .before .args .kinds .now) (c .before .before .before .before .before .before .before .before .before .before .before .before .before .before .before .before .before .before .args .rights .now) (c .before .before .before .before .before .before .before .before .before .before .before .before .before .before .before .before .before .before .args .state .now) (c .before .before .before .before .before .before .before .before .before .before .before .before .before .before .before .before .before .before .pre) (c .before .before .before .before .before .before .before .before .before .before .before .before .before .before .before .before .before .before .args .caller) (c .before .before .before .before .before .before .before .before .before .before .before .before .before .before .before .before .before .before .args .appointee) (c .before .before .before .before .before .before .before .before .before .before .before .before .before .before .before .before .before .before .args .kind) (c .before .before .before .before .before .before .before .before .before .before .before .before .before .before .before .before .before .before .args .appointer) (c .before .before .before .before .before .before .before .before .before .before .before .before .before .if1 .left) (c .before .before .before .before .before .before .before .before .before .before .before .before .if2 .left) (omega (arith, c .before .before .before .before .before .before .before .before .before .before .before .wide .ensures, c .before .before .before .before .before .before .before .before .before .before .if3 .left)) (c .before .before .before .before .before .before .before .before .before .if4 .left) (c .before .before .before .before .before .before .before .find-certificate .result) (c .before .before .before .before .before .before .before .find-certificate .ensures) (omega (arith, c .before .before .before .before .before .wide2 .ensures)) (c .refused6 .result) (c .refused6 .ensures) (sym (c .before .before .may-revoke .ensures) ∙ not-true _ (c .before .if6 .taken))
 
 take-certificate-requires : tie.Need-take-certificate-requires
-take-certificate-requires c κs = (sound-form _ (c .before .before .before .before .before .before .before .before .before .before .before .before .before .before .before .before .before .before .args .state .now) (c .before .before .before .before .before .before .before .before .before .before .before .before .before .before .before .before .before .before .pre), omega (arith, c .before .before .before .before .before .wide2 .ensures))
+take-certificate-requires c κs = (sound-form _ (c .before .before .before .before .before .before .before .before .before .before .before .before .before .before .before .before .before .before .args .state .now) (c .before .before .before .before .before .before .before .before .before .before .before .before .before .before .before .before .before .before .pre), sound-range _ (c .before .before .before .before .before .before .before .before .before .before .before .before .before .before .before .before .before .before .args .state .now) (c .before .before .before .before .before .before .before .before .before .before .before .before .before .before .before .before .before .before .pre), omega (arith, c .before .before .before .before .before .wide2 .ensures))
 
--- src/lib.rt:181:1
 same-length-3 : tie.Need-same-length-3
 same-length-3 c = search needs
 

@@ -6,19 +6,20 @@ use Rattle.model.specs.Layout.{decode}
 use Rattle.model.proofs.Tests.{of-true}
 use Rattle.model.specs.Sound.{wellFormed}
 use Rattle.model.proofs.Numbers.{decode-fits}
-use Rattle.inner.proofs.Falls.{encoded-formed, fallen-after, one-less-fits}
+use Rattle.inner.proofs.Falls.{encoded-formed, encoded-in-range, one-less-member, fallen-after, one-less-fits}
 use borrow.Author.Needs.{needs}
 use Rattle.inner.proofs.take_certificate.Statement.{statement}
 use Rattle.inner.proofs.take_certificate.Tie as tie
 
--- src/lib.rt:160:5
 remove-certificate-requires : tie.Need-remove-certificate-requires
 remove-certificate-requires c κs = search needs
 
 fall-requires : tie.Need-fall-requires
-fall-requires c κs = encoded-formed _ _ (c .before .before .before .remove-certificate .ensures) (one-less-fits (decode (c .before .before .before .before .before .before .before .before .args .state .now)) (c .before .before .before .before .before .before .before .before .args .j) (decode-fits (c .before .before .before .before .before .before .before .before .args .state .now) (of-true (wellFormed (c .before .before .before .before .before .before .before .before .args .state .now)) (c .before .before .before .before .before .before .before .before .pre .0))))
+fall-requires c κs = (
+  encoded-formed _ _ (c .before .before .before .remove-certificate .ensures) (one-less-fits (decode (c .before .before .before .before .before .before .before .before .args .state .now)) (c .before .before .before .before .before .before .before .before .args .j) (decode-fits (c .before .before .before .before .before .before .before .before .args .state .now) (of-true (wellFormed (c .before .before .before .before .before .before .before .before .args .state .now)) (c .before .before .before .before .before .before .before .before .pre .0)))),
+  encoded-in-range (c .before .before .before .before .before .before .before .before .args .state .now) _ _ (c .before .before .before .remove-certificate .ensures) (one-less-fits (decode (c .before .before .before .before .before .before .before .before .args .state .now)) (c .before .before .before .before .before .before .before .before .args .j) (decode-fits (c .before .before .before .before .before .before .before .before .args .state .now) (of-true (wellFormed (c .before .before .before .before .before .before .before .before .args .state .now)) (c .before .before .before .before .before .before .before .before .pre .0)))) (c .before .before .before .before .before .before .before .before .pre .1) (λ r m. m) (λ x m. one-less-member (decode (c .before .before .before .before .before .before .before .before .args .state .now) .certificates) (c .before .before .before .before .before .before .before .before .args .j) x m),
+)
 
--- src/lib.rt:156:1
 same-length : tie.Need-same-length
 same-length c = search needs
 

@@ -5,31 +5,27 @@ use borrow.Author.Tests.{le-ltb}
 use Rattle.model.specs.Layout.{policyOf}
 use Rattle.model.specs.Calls.{isUser, hasRow}
 use Rattle.inner.specs.Lent.{lent}
-use Rattle.inner.proofs.Codes.{sound-form, sound-sized, out-of-range}
+use Rattle.inner.proofs.Codes.{sound-form, sound-range, sound-sized, out-of-range}
 use Rattle.inner.proofs.Falls.{no-kind, withdraw-out, withdraw-none, withdraw-done}
 use borrow.Author.Needs.{needs}
 use Rattle.inner.proofs.withdraw.Statement.{statement}
 use Rattle.inner.proofs.withdraw.Tie as tie
 
--- src/lib.rt:220:9
 refused-requires : tie.Need-refused-requires
 refused-requires c κs = search needs
 
 returns : tie.Need-returns
 returns c = withdraw-out (c .before .before .before .before .before .before .args .rules .now) (c .before .before .before .before .before .before .args .kinds .now) (c .before .before .before .before .before .before .args .rights .now) (c .before .before .before .before .before .before .args .state .now) (c .before .before .before .before .before .before .pre) (c .before .before .before .before .before .before .args .appointee) (c .before .before .before .before .before .before .args .kind) (c .before .before .before .before .before .before .args .appointer) (c .refused .result) (c .refused .ensures) (out-of-range (isUser (c .before .before .before .before .before .before .args .appointee) ∷ hasRow (policyOf (lent (c .before .before .before .before .before .before .args .rules .now) (c .before .before .before .before .before .before .args .kinds .now) (c .before .before .before .before .before .before .args .rights .now))) (c .before .before .before .before .before .before .args .kind) ∷ isUser (c .before .before .before .before .before .before .args .appointer) ∷ []) 0 (le-ltb (c .before .before .before .before .before .before .args .appointee) 4096 (c .before .if1 .taken)))
 
--- src/lib.rt:222:36
 wide-requires : tie.Need-wide-requires
 wide-requires c κs = search needs
 
--- src/lib.rt:223:9
 refused-requires-2 : tie.Need-refused-requires-2
 refused-requires-2 c κs = search needs
 
 returns-2 : tie.Need-returns-2
 returns-2 c = withdraw-out (c .before .before .before .before .before .before .before .before .args .rules .now) (c .before .before .before .before .before .before .before .before .args .kinds .now) (c .before .before .before .before .before .before .before .before .args .rights .now) (c .before .before .before .before .before .before .before .before .args .state .now) (c .before .before .before .before .before .before .before .before .pre) (c .before .before .before .before .before .before .before .before .args .appointee) (c .before .before .before .before .before .before .before .before .args .kind) (c .before .before .before .before .before .before .before .before .args .appointer) (c .refused2 .result) (c .refused2 .ensures) (out-of-range (isUser (c .before .before .before .before .before .before .before .before .args .appointee) ∷ hasRow (policyOf (lent (c .before .before .before .before .before .before .before .before .args .rules .now) (c .before .before .before .before .before .before .before .before .args .kinds .now) (c .before .before .before .before .before .before .before .before .args .rights .now))) (c .before .before .before .before .before .before .before .before .args .kind) ∷ isUser (c .before .before .before .before .before .before .before .before .args .appointer) ∷ []) 1 (no-kind (c .before .before .before .before .before .before .before .before .args .rules .now) (c .before .before .before .before .before .before .before .before .args .kinds .now) (c .before .before .before .before .before .before .before .before .args .rights .now) (c .before .before .before .before .before .before .before .before .args .kind) (omega (arith, c .before .before .wide .ensures, c .before .if2 .taken))))
 
--- src/lib.rt:226:9
 refused-requires-3 : tie.Need-refused-requires-3
 refused-requires-3 c κs = search needs
 
@@ -42,15 +38,12 @@ find-certificate-requires c κs = sound-sized _ (c .before .before .before .befo
 slice-read-wide : tie.Need-slice-read-wide
 slice-read-wide c = omega (arith, sound-sized _ (c .before .before .before .before .before .before .before .before .before .before .before .args .state .now) (c .before .before .before .before .before .before .before .before .before .before .before .pre) .size)
 
--- src/lib.rt:236:8
 wide-requires-2 : tie.Need-wide-requires-2
 wide-requires-2 c κs = search needs
 
--- src/lib.rt:237:9
 refused-requires-4 : tie.Need-refused-requires-4
 refused-requires-4 c κs = search needs
 
--- src/lib.rt:237:9
 same-length : tie.Need-same-length
 same-length c = search needs
 
@@ -58,9 +51,8 @@ returns-4 : tie.Need-returns-4
 returns-4 c = withdraw-none (c .before .before .before .before .before .before .before .before .before .before .before .before .before .before .args .rules .now) (c .before .before .before .before .before .before .before .before .before .before .before .before .before .before .args .kinds .now) (c .before .before .before .before .before .before .before .before .before .before .before .before .before .before .args .rights .now) (c .before .before .before .before .before .before .before .before .before .before .before .before .before .before .args .state .now) (c .before .before .before .before .before .before .before .before .before .before .before .before .before .before .pre) (c .before .before .before .before .before .before .before .before .before .before .before .before .before .before .args .appointee) (c .before .before .before .before .before .before .before .before .before .before .before .before .before .before .args .kind) (c .before .before .before .before .before .before .before .before .before .before .before .before .before .before .args .appointer) (c .before .before .before .before .before .before .before .before .before .if1 .left) (omega (arith, c .before .before .before .before .before .before .before .before .wide .ensures, c .before .before .before .before .before .before .before .if2 .left)) (c .before .before .before .before .before .before .if3 .left) (c .before .before .before .before .find-certificate .result) (c .before .before .before .before .find-certificate .ensures) (c .refused4 .result) (c .refused4 .ensures) (omega (arith, c .before .before .wide2 .ensures))
 
 take-certificate-requires : tie.Need-take-certificate-requires
-take-certificate-requires c κs = (sound-form _ (c .before .before .before .before .before .before .before .before .before .before .before .before .before .before .args .state .now) (c .before .before .before .before .before .before .before .before .before .before .before .before .before .before .pre), omega (arith, c .before .before .wide2 .ensures))
+take-certificate-requires c κs = (sound-form _ (c .before .before .before .before .before .before .before .before .before .before .before .before .before .before .args .state .now) (c .before .before .before .before .before .before .before .before .before .before .before .before .before .before .pre), sound-range _ (c .before .before .before .before .before .before .before .before .before .before .before .before .before .before .args .state .now) (c .before .before .before .before .before .before .before .before .before .before .before .before .before .before .pre), omega (arith, c .before .before .wide2 .ensures))
 
--- src/lib.rt:215:1
 same-length-2 : tie.Need-same-length-2
 same-length-2 c = search needs
 

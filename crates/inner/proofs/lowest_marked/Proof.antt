@@ -1,0 +1,66 @@
+-- The invariant: no rule passed is satisfied.
+use Prim.Native.Nat.{ℕ, _/_, _≤_, _-_}
+use mathlib.Core.Path.{_≡_, refl, sym, ap, _∙_}
+use mathlib.Core.Bool.{Bool, false}
+use mathlib.Core.List.{List}
+use native.Mathlib.Omega.{arith}
+use lib.ListN.{length}
+use Rattle.model.specs.Lists.{any}
+use Rattle.model.specs.Layout.{policyOf, ruleFrom}
+use Rattle.index.specs.Marked.{block, satisfiedBy}
+use Rattle.model.specs.declared.Rule.{Rule}
+use Rattle.table.specs.Entries.{entries, ruleAt, worldAt}
+use Rattle.table.proofs.Entries.{any-next}
+use Rattle.inner.proofs.First.{first-hit, first-missing}
+use borrow.Author.Needs.{needs}
+use Rattle.inner.proofs.lowest_marked.Statement.{statement}
+use Rattle.inner.proofs.lowest_marked.Tie as tie
+
+abbrev test : List ℕ → List ℕ → List ℕ → List ℕ → ℕ → Rule → Bool
+test rules kinds s words q = satisfiedBy (block words 384) (worldAt rules kinds s) q
+
+abbrev Inv-loop : tie.InvT-loop
+Inv-loop rules kinds state words role n i₀ i = (i ≤ n) × (any (test rules kinds state words role) (entries ruleFrom 11 rules i) ≡ false)
+
+abbrev μ-loop : tie.MeasureT-loop
+μ-loop rules kinds state words role n i₀ i = n - i
+
+loop-holds : tie.Need-loop-holds Inv-loop μ-loop
+loop-holds c = (search needs, refl)
+
+rule-satisfied-requires : tie.Need-rule-satisfied-requires Inv-loop μ-loop
+rule-satisfied-requires c κs = search needs
+
+returns : tie.Need-returns Inv-loop μ-loop
+unfolding policyOf ruleAt
+returns c = sym (first-hit ruleFrom 11 (test (c .before .before .before .before .before .before .before .before .args .rules .now) (c .before .before .before .before .before .before .before .before .args .kinds .now) (c .before .before .before .before .before .before .before .before .args .state .now) (c .before .before .before .before .before .before .before .before .args .words .now) (c .before .before .before .before .before .before .before .before .args .role)) (c .before .before .before .before .before .before .before .before .args .rules .now) (length (c .before .before .before .before .before .before .before .before .args .rules .now) / 11) (c .before .before .before .loop .i) (search needs) (c .before .before .before .loop .inv .1) (sym (c .before .rule-satisfied .ensures) ∙ c .if1 .taken))
+
+add-i : tie.Need-add-i Inv-loop μ-loop
+add-i c = search needs
+
+loop-less : tie.Need-loop-less Inv-loop μ-loop
+loop-less c = search needs
+
+loop-again : tie.Need-loop-again Inv-loop μ-loop
+unfolding ruleAt
+loop-again c = (search needs, any-next ruleFrom 11 (test (c .before .before .before .before .before .before .before .before .args .rules .now) (c .before .before .before .before .before .before .before .before .args .kinds .now) (c .before .before .before .before .before .before .before .before .args .state .now) (c .before .before .before .before .before .before .before .before .args .words .now) (c .before .before .before .before .before .before .before .before .args .role)) (c .before .before .before .before .before .before .before .before .args .rules .now) (c .before .before .before .loop .i) (c .before .before .before .loop .inv .1) (sym (c .before .rule-satisfied .ensures) ∙ c .if1 .left))
+
+returns-2 : tie.Need-returns-2 Inv-loop μ-loop
+unfolding policyOf
+returns-2 c =
+    let e : c .before .loop .i ≡ length (c .before .before .before .before .before .before .args .rules .now) / 11 = omega arith in
+    e ∙ sym (first-missing ruleFrom 11 (test (c .before .before .before .before .before .before .args .rules .now) (c .before .before .before .before .before .before .args .kinds .now) (c .before .before .before .before .before .before .args .state .now) (c .before .before .before .before .before .before .args .words .now) (c .before .before .before .before .before .before .args .role)) (c .before .before .before .before .before .before .args .rules .now) (length (c .before .before .before .before .before .before .args .rules .now) / 11) (ap (λ (n : ℕ). any (test (c .before .before .before .before .before .before .args .rules .now) (c .before .before .before .before .before .before .args .kinds .now) (c .before .before .before .before .before .before .args .state .now) (c .before .before .before .before .before .before .args .words .now) (c .before .before .before .before .before .before .args .role)) (entries ruleFrom 11 (c .before .before .before .before .before .before .args .rules .now) n)) (sym e) ∙ c .before .loop .inv .1))
+
+pub lowest-marked-spec : {M : Type 1} → statement M
+lowest-marked-spec =
+    tie.close
+    (tie.spec
+    Inv-loop
+    μ-loop
+    loop-holds
+    rule-satisfied-requires
+    returns
+    add-i
+    loop-less
+    loop-again
+    returns-2)
