@@ -1,3 +1,4 @@
+pub mod Having
 pub mod Invoking
 pub mod Reaching
 pub mod Telling

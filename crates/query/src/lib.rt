@@ -3,19 +3,19 @@ ghost use mathlib.Core.Path.{_≡_};
 ghost use mathlib.Core.Bool.{_&&_, cond};
 ghost use mathlib.Core.List.{[]};
 ghost use Prim.Native.Nat.{_<_, _≤_};
-ghost use lib.Dec.{eqb};
+ghost use lib.Dec.{T, eqb};
 ghost use lib.ListN.{length, getD, take};
+ghost use Rattle.model.specs.Lists.{all};
 ghost use Rattle.model.specs.Limits.{roles, stateSize, mostRows};
 ghost use Rattle.model.specs.Layout.{decode, policyOf};
 ghost use Rattle.model.specs.Conditions.{meant, membership, ruleNumbered, rolesAsked, restsOn};
-ghost use Rattle.model.specs.Effective.{direct};
+ghost use Rattle.model.specs.Sound.{rightFits};
 ghost use Rattle.model.specs.Calls.{invoke as invokeCall, effective as effectiveCall, chain as chainCall, allowed};
 ghost use Rattle.model.specs.Words.{Sound};
 ghost use Rattle.table.specs.Entries.{Sized, without-rights};
 ghost use Rattle.inner.specs.Lent.{lent, Answers, AnswersWith};
-ghost use Rattle.query.specs.Reached.{newest, conditionReaches, rowReaches, Clean};
+ghost use Rattle.query.specs.Reached.{newest, hasRight, Having, conditionReaches, rowReaches, Clean};
 use model::Answer;
-use model::Right;
 use model::Row;
 
 const USERS: u16 = 4096;
@@ -40,50 +40,54 @@ fn told(so: bool) -> Answer
     inner::refused(0)
 }
 
-// The right is one of the role to the privilege.
-fn right_is(right: Right, role: u16, privilege: u16) -> bool
-    ensures { λ r. ⌜ r ≡ (eqb (right .role) role && eqb (right .privilege) privilege) ⌝ }
+// Which roles have the privilege themselves: one pass over the rights serves all the rows that are asked afterwards.
+fn roles_having(rights: &[u16], privilege: u16) -> [bool; 256]
+    requires { ⌜ T (all rightFits (policyOf (lent [] [] (now rights)) .rights)) ⌝ }
+    ensures { λ r. ⌜ Having (now (rights .entry)) privilege r ⌝ }
 {
-    if right.role == role {
-        return right.privilege == privilege;
-    }
-    false
-}
-
-// The role has the privilege itself.
-pub fn has_right(rights: &[u16], role: u16, privilege: u16) -> bool
-    ensures { λ r. ⌜ r ≡ direct (policyOf (lent [] [] (now (rights .entry)))) role privilege ⌝ }
-{
+    let mut having = [false; 256];
     let n = rights.len() / RIGHT_WIDTH;
     let mut i: usize = 0;
     while i < n {
-        if right_is(table::right_at(rights, i), role, privilege) {
-            return true;
-        }
+        let right = table::right_at(rights, i);
         i += 1;
+        if right.privilege == privilege {
+            having[table::wide(right.role)] = true;
+        }
+    }
+    having
+}
+
+// The role has the privilege itself.
+fn has_right(having: &[bool; 256], role: u16) -> bool
+    ensures { λ r. ⌜ r ≡ hasRight (now (having .entry)) role ⌝ }
+{
+    if role < ROLES {
+        return having[table::wide(role)];
     }
     false
 }
 
 // The row is the user's, and its role has the privilege.
-fn row_carries(rights: &[u16], row: Row, user: u16, privilege: u16) -> bool
-    ensures { λ r. ⌜ r ≡ (eqb (row .user) user && direct (policyOf (lent [] [] (now (rights .entry)))) (row .role) privilege) ⌝ }
+fn row_carries(having: &[bool; 256], row: Row, user: u16) -> bool
+    ensures { λ r. ⌜ r ≡ (eqb (row .user) user && hasRight (now (having .entry)) (row .role)) ⌝ }
 {
     if row.user == user {
-        return has_right(rights, row.role, privilege);
+        return has_right(having, row.role);
     }
     false
 }
 
 // Some active role of the user has the privilege.
 fn may_invoke(rights: &[u16], state: &[u16], user: u16, privilege: u16) -> bool
-    requires { ⌜ Sized (now state) ⌝ }
+    requires { ⌜ Sized (now state) × T (all rightFits (policyOf (lent [] [] (now rights)) .rights)) ⌝ }
     ensures { λ r. ⌜ r ≡ allowed (policyOf (lent [] [] (now (rights .entry)))) (decode (now (state .entry)) .rows) user privilege ⌝ }
 {
+    let having = roles_having(rights, privilege);
     let n = table::wide(state[ROW_COUNT]);
     let mut i: usize = 0;
     while i < n {
-        if row_carries(rights, table::row_at(state, i), user, privilege) {
+        if row_carries(&having, table::row_at(state, i), user) {
             return true;
         }
         i += 1;
@@ -175,22 +179,21 @@ fn newest_row(state: &[u16], k: usize, user: u16, role: u16) -> usize
 fn row_reaches(
     rules: &[u16],
     kinds: &[u16],
-    rights: &[u16],
+    having: &[bool; 256],
     state: &[u16],
     seen: &mut [u16],
     k: usize,
     user: u16,
-    privilege: u16,
 ) -> bool
-    requires { ⌜ (length (now state) ≡ stateSize) × (k < mostRows) × (length (now seen) ≡ mostRows) × Clean (lent (now rules) (now kinds) (now rights)) (now state) user privilege (now seen) ⌝ }
-    ensures answer { λ r. ⌜ r ≡ rowReaches (lent (now (rules .entry)) (now (kinds .entry)) (now (rights .entry))) (now (state .entry)) user privilege k ⌝ }
-    ensures clean { λ r. ⌜ Clean (lent (now (rules .entry)) (now (kinds .entry)) (now (rights .entry))) (now (state .entry)) user privilege (now (seen .exit)) ⌝ }
+    requires { ⌜ (length (now state) ≡ stateSize) × (k < mostRows) × (length (now seen) ≡ mostRows) × Clean (without-rights (now rules) (now kinds)) (now having) (now state) user (now seen) ⌝ }
+    ensures answer { λ r. ⌜ r ≡ rowReaches (without-rights (now (rules .entry)) (now (kinds .entry))) (now (having .entry)) (now (state .entry)) user k ⌝ }
+    ensures clean { λ r. ⌜ Clean (without-rights (now (rules .entry)) (now (kinds .entry))) (now (having .entry)) (now (state .entry)) user (now (seen .exit)) ⌝ }
 {
     if seen[k] == 1 {
         return false;
     }
     let row = table::row_at(state, k);
-    if has_right(rights, row.role, privilege) {
+    if has_right(having, row.role) {
         return true;
     }
     let own = membership_of(rules, row);
@@ -200,17 +203,7 @@ fn row_reaches(
     while i < m {
         let condition = conditions[i];
         i += 1;
-        if condition_reaches(
-            rules,
-            kinds,
-            rights,
-            state,
-            seen,
-            k,
-            user,
-            privilege,
-            condition,
-        ) {
+        if condition_reaches(rules, kinds, having, state, seen, k, user, condition) {
             return true;
         }
     }
@@ -222,17 +215,16 @@ fn row_reaches(
 fn condition_reaches(
     rules: &[u16],
     kinds: &[u16],
-    rights: &[u16],
+    having: &[bool; 256],
     state: &[u16],
     seen: &mut [u16],
     k: usize,
     user: u16,
-    privilege: u16,
     condition: u16,
 ) -> bool
-    requires { ⌜ (length (now state) ≡ stateSize) × (k < mostRows) × (length (now seen) ≡ mostRows) × Clean (lent (now rules) (now kinds) (now rights)) (now state) user privilege (now seen) ⌝ }
-    ensures answer { λ r. ⌜ r ≡ conditionReaches (lent (now (rules .entry)) (now (kinds .entry)) (now (rights .entry))) (now (state .entry)) user privilege k condition ⌝ }
-    ensures clean { λ r. ⌜ Clean (lent (now (rules .entry)) (now (kinds .entry)) (now (rights .entry))) (now (state .entry)) user privilege (now (seen .exit)) ⌝ }
+    requires { ⌜ (length (now state) ≡ stateSize) × (k < mostRows) × (length (now seen) ≡ mostRows) × Clean (without-rights (now rules) (now kinds)) (now having) (now state) user (now seen) ⌝ }
+    ensures answer { λ r. ⌜ r ≡ conditionReaches (without-rights (now (rules .entry)) (now (kinds .entry))) (now (having .entry)) (now (state .entry)) user k condition ⌝ }
+    ensures clean { λ r. ⌜ Clean (without-rights (now (rules .entry)) (now (kinds .entry))) (now (having .entry)) (now (state .entry)) user (now (seen .exit)) ⌝ }
 {
     let asked = roles_asked(kinds, condition);
     let roles = asked.roles;
@@ -244,7 +236,7 @@ fn condition_reaches(
         if p == 0 {
             continue;
         }
-        if row_reaches(rules, kinds, rights, state, seen, p - 1, user, privilege) {
+        if row_reaches(rules, kinds, having, state, seen, p - 1, user) {
             return true;
         }
     }
@@ -276,17 +268,9 @@ pub fn effective(
     if p == 0 {
         return inner::refused(12);
     }
+    let having = roles_having(rights, privilege);
     let mut seen = [0u16; 256];
-    told(row_reaches(
-        rules,
-        kinds,
-        rights,
-        state,
-        &mut seen,
-        p - 1,
-        user,
-        privilege,
-    ))
+    told(row_reaches(rules, kinds, &having, state, &mut seen, p - 1, user))
 }
 
 // The first role that the row rests on, or 256 where it rests on none.

@@ -1,5 +1,5 @@
 use Prim.Native.Nat.{ℕ, min}
-use mathlib.Core.Path.{_≡_, refl, sym, ap, _∙_}
+use mathlib.Core.Path.{ap, _∙_}
 use native.Mathlib.Omega.{arith}
 use Rattle.query.proofs.Reaching.{asked-role, asked-kind, asked-none}
 use mathlib.Core.List.{[]}
