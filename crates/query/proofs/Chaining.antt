@@ -25,8 +25,8 @@ use Rattle.model.proofs.Kept.{sound-rows}
 use Rattle.model.proofs.Support.{isRow-user, isRow-role, rests-on-active, row-new, row-role, row-supported}
 use Rattle.table.specs.Entries.{rowAt, firstRows}
 use Rattle.fall.specs.Writes.{Zeroed}
-use Rattle.query.specs.Reached.{newest}
-use Rattle.query.proofs.Reaching.{rows-more, newest-active, newest-some, newest-within}
+use Rattle.rests.specs.Newest.{newest}
+use Rattle.rests.proofs.Newest.{rows-more, newest-active, newest-some, newest-within}
 
 -- what is still to be written from a role on, at most so many roles; 256 stands for no role
 abbrev pub onward : Tables → List ℕ → ℕ → ℕ → ℕ → List ℕ

@@ -2,6 +2,5 @@ pub mod Having
 pub mod Invoking
 pub mod Reaching
 pub mod Telling
-pub mod Stepping
 pub mod Chaining
 pub mod Listing

@@ -1,30 +1,27 @@
 -- Effective: what code asks row by row is the model's, and a marked row need not be asked again.
-use Prim.Native.Nat.{ℕ, zero, suc, _+_, _-_, _≤_, _<_, min}
+use Prim.Native.Nat.{ℕ, zero, suc, _+_, _-_, _≤_, _<_}
 use mathlib.Core.Path.{_≡_, refl, sym, ap, _∙_, subst}
 use mathlib.Core.Bool.{Bool, true, false, _||_, cond}
 use mathlib.Core.Logic.{_≢_}
-use mathlib.Core.List.{List, [], _∷_, _++_, reverse, List·Memᴰ}
+use mathlib.Core.List.{List, [], _∷_, reverse, List·Memᴰ}
 use native.Mathlib.Omega.{arith}
 use native.Mathlib.Numerals.{add-one}
 use native.Mathlib.Decide.{decLt}
-use lib.Dec.{ltb}
-use borrow.Author.Tests.{lt-ltb, le-ltb}
 use lib.ListN.{length, getD, take, set, replicate}
 use lib.Seq.{getD-set-other, take-suc, getD-take}
 use Rattle.model.specs.Lists.{any, joined}
-use Rattle.model.specs.Records.{Tables, Policy}
-use Rattle.model.specs.Layout.{policyOf, rowFrom, rowNumbers}
-use Rattle.model.specs.Conditions.{Condition, role, kind, fact, malformed, meant, isRow, active, membership, ruleNumbered, prerequisiteRoles, kindNumbered, noKind, rolesAsked, restsOn}
+use Rattle.model.specs.Records.{Tables}
+use Rattle.model.specs.Layout.{policyOf}
+use Rattle.model.specs.Conditions.{role, meant, isRow, membership, ruleNumbered, rolesAsked, restsOn}
 use Rattle.model.specs.declared.Row.{Row}
-use Rattle.model.specs.declared.Rule.{Rule}
-use Rattle.model.specs.declared.Kind.{Kind}
 use Rattle.model.proofs.Tests.{is-true, of-true, any-append, of-any, at-place}
 use Rattle.model.proofs.Support.{isRow-role}
 use Rattle.model.proofs.Carried.{reverse-last}
 use Rattle.table.specs.Entries.{rowAt, firstRows, without-rights}
-use Rattle.table.proofs.Entries.{entries-more}
-use Rattle.table.proofs.Worlds.{take-least}
-use Rattle.query.specs.Reached.{newest, hasRight, carried, reachedIn, conditionReaches, rowReaches, Clean}
+use Rattle.rests.specs.Newest.{newest}
+use Rattle.rests.proofs.Newest.{rows-more}
+use Rattle.rests.proofs.Asking.{roles-same}
+use Rattle.query.specs.Reached.{hasRight, carried, reachedIn, conditionReaches, rowReaches, Clean}
 
 -- ── the first elements of a list, searched one by one ──
 
@@ -41,101 +38,7 @@ module _ {A B : Type 0} (test : B → Bool) (f : A → List B) where
   any-joined [] = refl
   any-joined (x ∷ l) = any-append test (f x) (joined f l) ∙ ap (λ (b : Bool). any test (f x) || b) (any-joined l)
 
--- ── the newest row ──
-
-module _ (s : List ℕ) (u q : ℕ) where
-  -- row i - 1 is the newest of the first i, or the newest stands before it
-  pub newest-here : (i : ℕ) → 0 < i → isRow u q (rowAt s (i - 1)) ≡ true → newest s u q i ≡ i
-  unfolding newest
-  newest-here zero h e = absurd (omega arith)
-  newest-here (suc i) h e = let k : i ≡ suc i - 1 = omega arith in ap (λ (b : Bool). cond b (suc i) (newest s u q i)) (ap (λ (n : ℕ). isRow u q (rowAt s n)) k ∙ e)
-
-  pub newest-before : (i : ℕ) → 0 < i → isRow u q (rowAt s (i - 1)) ≡ false → newest s u q (i - 1) ≡ newest s u q i
-  unfolding newest
-  newest-before zero h e = absurd (omega arith)
-  newest-before (suc i) h e = let k : i ≡ suc i - 1 = omega arith in ap (newest s u q) (sym k) ∙ sym (ap (λ (b : Bool). cond b (suc i) (newest s u q i)) (ap (λ (n : ℕ). isRow u q (rowAt s n)) k ∙ e))
-
-  pub newest-none : (i k : ℕ) → i ≤ 0 → newest s u q i ≡ newest s u q k → 0 ≡ newest s u q k
-  unfolding newest
-  newest-none zero k h e = e
-  newest-none (suc i) k h e = absurd (omega arith)
-
-  pub newest-within : (k : ℕ) → newest s u q k ≤ k
-  unfolding newest
-  newest-within zero = omega arith
-  newest-within (suc k) = go (isRow u q (rowAt s k)) (newest-within k)
-    where
-      go : (b : Bool) → newest s u q k ≤ k → cond b (suc k) (newest s u q k) ≤ suc k
-      go true h = omega arith
-      go false h = omega arith
-
--- the rows up to k, with row k behind them
-pub rows-more : (s : List ℕ) (k : ℕ) → firstRows s (suc k) ≡ firstRows s k ++ (rowAt s k ∷ [])
-unfolding firstRows rowAt
-rows-more s k = ap (λ (n : ℕ). firstRows s n) (sym (add-one k)) ∙ entries-more rowFrom 3 (rowNumbers s) k
-
--- the user is active in the role in the first k rows exactly if there is a newest row for it
-pub newest-active : (s : List ℕ) (u q k : ℕ) → newest s u q k ≡ 0 → active (firstRows s k) u q ≡ false
-unfolding newest active firstRows
-newest-active s u q zero e = refl
-newest-active s u q (suc k) e = go (isRow u q (rowAt s k)) refl e (newest-active s u q k)
-  where
-    go : (b : Bool) → isRow u q (rowAt s k) ≡ b → cond b (suc k) (newest s u q k) ≡ 0 → (newest s u q k ≡ 0 → active (firstRows s k) u q ≡ false) → active (firstRows s (suc k)) u q ≡ false
-    go true r z f = absurd (omega arith)
-    go false r z f = ap (any (isRow u q)) (rows-more s k) ∙ any-append (isRow u q) (firstRows s k) (rowAt s k ∷ []) ∙ (λ i. f z i || (r i || false))
-
-pub newest-some : (s : List ℕ) (u q k : ℕ) → newest s u q k ≢ 0 → active (firstRows s k) u q ≡ true
-unfolding newest active
-newest-some s u q zero e = absurd (e refl)
-newest-some s u q (suc k) e = ap (any (isRow u q)) (rows-more s k) ∙ any-append (isRow u q) (firstRows s k) (rowAt s k ∷ []) ∙ go (isRow u q (rowAt s k)) e (newest-some s u q k)
-  where
-    or-true : (a : Bool) → (a || true) ≡ true
-    or-true true = refl
-    or-true false = refl
-
-    go : (b : Bool) → cond b (suc k) (newest s u q k) ≢ 0 → (newest s u q k ≢ 0 → active (firstRows s k) u q ≡ true) → (any (isRow u q) (firstRows s k) || (b || false)) ≡ true
-    go true z f = or-true (any (isRow u q) (firstRows s k))
-    go false z f = ap (λ (a : Bool). a || false) (f z)
-
--- ── what a condition asks for ──
-
-module _ (kinds : List ℕ) (c : ℕ) where
-  pub asked-role : c < 256 → c ∷ [] ≡ rolesAsked (policyOf (without-rights [] kinds)) (meant c)
-  unfolding meant rolesAsked
-  asked-role h = sym (rw (lt-ltb c 256 h) refl)
-
-  pub asked-kind : (n : ℕ) (row : Kind) → 256 ≤ c → c < 384 → row ≡ kindNumbered (policyOf (without-rights [] kinds)) (c - 256) → length (row .prerequisites) ≡ 4 → n ≡ min (row .s) 4 → take n (row .prerequisites) ≡ rolesAsked (policyOf (without-rights [] kinds)) (meant c)
-  unfolding meant rolesAsked
-  asked-kind n row h k e size least =
-      ap (λ (m : ℕ). take m (row .prerequisites)) least
-      ∙ take-least (row .s) 4 (row .prerequisites) size
-      ∙ ap prerequisiteRoles e
-      ∙ sym (rw (le-ltb c 256 h, lt-ltb c 384 k) refl)
-
-  pub asked-none : 384 ≤ c → [] ≡ rolesAsked (policyOf (without-rights [] kinds)) (meant c)
-  unfolding meant rolesAsked
-  asked-none h = go (ltb c 448) (sym (rw (le-ltb c 256 (omega arith), le-ltb c 384 h) refl))
-    where
-      fact-or-not : (b : Bool) → [] ≡ rolesAsked (policyOf (without-rights [] kinds)) (cond b (fact (c - 384)) malformed)
-      fact-or-not true = refl
-      fact-or-not false = refl
-
-      go : (b : Bool) → rolesAsked (policyOf (without-rights [] kinds)) (cond b (fact (c - 384)) malformed) ≡ rolesAsked (policyOf (without-rights [] kinds)) (meant c) → [] ≡ rolesAsked (policyOf (without-rights [] kinds)) (meant c)
-      go b e = fact-or-not b ∙ e
-
--- ── the conditions of a row's own rule ──
-
-pub own-rule : (rules : List ℕ) (row : Row) (rule : Rule) (m : ℕ) → rule ≡ ruleNumbered (policyOf (without-rights rules [])) (row .rule) → length (rule .conditions) ≡ 8 → m ≡ min (rule .m) 8 → take m (rule .conditions) ≡ membership (ruleNumbered (policyOf (without-rights rules [])) (row .rule))
-own-rule rules row rule m e size least = ap (λ (n : ℕ). take n (rule .conditions)) least ∙ take-least (rule .m) 8 (rule .conditions) size ∙ ap membership e
-
 -- ── what a row asks ──
-
-pub roles-same : (p₁ p₂ : Policy) → p₁ .kinds ≡ p₂ .kinds → (c : Condition) → rolesAsked p₁ c ≡ rolesAsked p₂ c
-unfolding rolesAsked
-roles-same p₁ p₂ e (role q) = refl
-roles-same p₁ p₂ e (kind k) = ap (λ (ks : List Kind). prerequisiteRoles (getD ks k noKind)) e
-roles-same p₁ p₂ e (fact f) = refl
-roles-same p₁ p₂ e malformed = refl
 
 module _ (t : Tables) (having : List Bool) (s : List ℕ) (u : ℕ) where
   -- a role with no row before k is not carried, and one with a newest row is carried if that row carries it

@@ -20,9 +20,11 @@ use Rattle.model.proofs.Numbers.{encode-decode, sound-formed}
 use Rattle.table.specs.Entries.{firstRows, without-rights}
 use Rattle.inner.specs.Lent.{lent, Answers}
 use Rattle.inner.proofs.Codes.{own-refuses, own-accepts, in-range, found, active-now}
-use Rattle.query.specs.Reached.{newest, hasRight, Having, carried, reachedIn, rowReaches}
-use Rattle.query.proofs.Reaching.{newest-active, newest-some, reached-at}
-use Rattle.query.proofs.Stepping.{rests-same}
+use Rattle.rests.specs.Newest.{newest}
+use Rattle.rests.proofs.Newest.{newest-active, newest-some}
+use Rattle.rests.proofs.Stepping.{rests-same}
+use Rattle.query.specs.Reached.{hasRight, Having, carried, reachedIn, rowReaches}
+use Rattle.query.proofs.Reaching.{reached-at}
 
 -- a role carries the privilege, by the roles that have it themselves or by the rights
 carried-same : (rules kinds rights : List ℕ) (having : List Bool) (u x : ℕ) → Having rights x having → (rows : List Row) (q : ℕ) → carried (without-rights rules kinds) having u rows q ≡ carries (policyOf (lent rules kinds rights)) u x rows q
@@ -31,7 +33,7 @@ carried-same rules kinds rights having u x h [] q = refl
 carried-same rules kinds rights having u x h (r ∷ earlier) q =
     λ i.
     cond (isRow u q r)
-    (itself i || any (λ (lower : ℕ). carried-same rules kinds rights having u x h earlier lower i) (rests-same rules kinds rights r i))
+    (itself i || any (λ (lower : ℕ). carried-same rules kinds rights having u x h earlier lower i) (rests-same (lent rules kinds rights) r i))
     (carried-same rules kinds rights having u x h earlier q i)
   where
     itself : hasRight having q ≡ direct (policyOf (lent rules kinds rights)) q x

@@ -1,5 +1,5 @@
 -- Effective privileges by places, as code asks for them: row k asks the rows before it.
-use Prim.Native.Nat.{ℕ, zero, suc}
+use Prim.Native.Nat.{ℕ}
 use mathlib.Core.Path.{_≡_}
 use mathlib.Core.Bool.{Bool, false, _&&_, _||_, cond}
 use mathlib.Core.List.{List, [], _∷_, reverse}
@@ -14,11 +14,6 @@ use Rattle.model.specs.Effective.{direct}
 use Rattle.model.specs.declared.Row.{Row}
 use Rattle.table.specs.Entries.{rowAt, firstRows}
 use Rattle.inner.specs.Lent.{lent}
-
--- the newest of the first k rows in which the user is active in the role: one more than its place, or 0 where there is none
-unfoldable pub newest : List ℕ → ℕ → ℕ → ℕ → ℕ
-newest s u q zero = 0
-newest s u q (suc k) = cond (isRow u q (rowAt s k)) (suc k) (newest s u q k)
 
 -- the role is one of those that have the privilege; the list has an entry for each role
 unfoldable pub hasRight : List Bool → ℕ → Bool

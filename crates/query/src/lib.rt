@@ -2,19 +2,18 @@
 ghost use mathlib.Core.Path.{_≡_};
 ghost use mathlib.Core.Bool.{_&&_, cond};
 ghost use mathlib.Core.List.{[]};
-ghost use Prim.Native.Nat.{_<_, _≤_};
+ghost use Prim.Native.Nat.{_<_};
 ghost use lib.Dec.{T, eqb};
-ghost use lib.ListN.{length, getD, take};
+ghost use lib.ListN.{length};
 ghost use Rattle.model.specs.Lists.{all};
-ghost use Rattle.model.specs.Limits.{roles, stateSize, mostRows};
+ghost use Rattle.model.specs.Limits.{stateSize, mostRows};
 ghost use Rattle.model.specs.Layout.{decode, policyOf};
-ghost use Rattle.model.specs.Conditions.{meant, membership, ruleNumbered, rolesAsked, restsOn};
 ghost use Rattle.model.specs.Sound.{rightFits};
 ghost use Rattle.model.specs.Calls.{invoke as invokeCall, effective as effectiveCall, chain as chainCall, allowed};
 ghost use Rattle.model.specs.Words.{Sound};
 ghost use Rattle.table.specs.Entries.{Sized, without-rights};
 ghost use Rattle.inner.specs.Lent.{lent, Answers, AnswersWith};
-ghost use Rattle.query.specs.Reached.{newest, hasRight, Having, conditionReaches, rowReaches, Clean};
+ghost use Rattle.query.specs.Reached.{hasRight, Having, conditionReaches, rowReaches, Clean};
 use model::Answer;
 use model::Row;
 
@@ -115,66 +114,6 @@ pub fn invoke(
     told(may_invoke(rights, state, user, privilege))
 }
 
-// The roles that a condition asks for: the first `count` of four.
-pub struct Asked {
-    pub count: usize,
-    pub roles: [u16; 4],
-}
-
-// A role asks for itself, a kind for its prerequisite roles, a fact for none.
-fn roles_asked(kinds: &[u16], condition: u16) -> Asked
-    ensures few { λ r. ⌜ r .count ≤ 4 ⌝ }
-    ensures asked { λ r. ⌜ take (r .count) (r .roles) ≡ rolesAsked (policyOf (without-rights [] (now (kinds .entry)))) (meant condition) ⌝ }
-{
-    if condition < 256 {
-        return Asked {
-            count: 1,
-            roles: [condition, 0, 0, 0],
-        };
-    }
-    if condition < 384 {
-        let row = table::kind_numbered(kinds, table::wide(condition - 256));
-        let roles = row.prerequisites;
-        let count = table::least(table::wide(row.s), 4);
-        return Asked { count, roles };
-    }
-    Asked {
-        count: 0,
-        roles: [0, 0, 0, 0],
-    }
-}
-
-// The membership conditions of the row's own rule: the first `count` of eight.
-pub struct Membership {
-    pub count: usize,
-    pub conditions: [u16; 8],
-}
-
-fn membership_of(rules: &[u16], row: Row) -> Membership
-    ensures few { λ r. ⌜ r .count ≤ 8 ⌝ }
-    ensures own { λ r. ⌜ take (r .count) (r .conditions) ≡ membership (ruleNumbered (policyOf (without-rights (now (rules .entry)) [])) (row .rule)) ⌝ }
-{
-    let rule = table::rule_numbered(rules, table::wide(row.rule));
-    let conditions = rule.conditions;
-    let count = table::least(table::wide(rule.m), 8);
-    Membership { count, conditions }
-}
-
-// The newest of the first k rows in which the user is active in the role: one more than its place, or 0 where there is none.
-fn newest_row(state: &[u16], k: usize, user: u16, role: u16) -> usize
-    requires { ⌜ (length (now state) ≡ stateSize) × (k ≤ mostRows) ⌝ }
-    ensures { λ r. ⌜ r ≡ newest (now (state .entry)) user role k ⌝ }
-{
-    let mut i = k;
-    while 0 < i {
-        if table::row_is(table::row_at(state, i - 1), user, role) {
-            return i;
-        }
-        i -= 1;
-    }
-    0
-}
-
 // Row k carries the privilege. Rows found not to carry it are marked and not asked again: a rule may name one role eight times.
 fn row_reaches(
     rules: &[u16],
@@ -196,7 +135,7 @@ fn row_reaches(
     if has_right(having, row.role) {
         return true;
     }
-    let own = membership_of(rules, row);
+    let own = rests::membership_of(rules, row);
     let conditions = own.conditions;
     let m = own.count;
     let mut i: usize = 0;
@@ -226,12 +165,12 @@ fn condition_reaches(
     ensures answer { λ r. ⌜ r ≡ conditionReaches (without-rights (now (rules .entry)) (now (kinds .entry))) (now (having .entry)) (now (state .entry)) user k condition ⌝ }
     ensures clean { λ r. ⌜ Clean (without-rights (now (rules .entry)) (now (kinds .entry))) (now (having .entry)) (now (state .entry)) user (now (seen .exit)) ⌝ }
 {
-    let asked = roles_asked(kinds, condition);
+    let asked = rests::roles_asked(kinds, condition);
     let roles = asked.roles;
     let n = asked.count;
     let mut j: usize = 0;
     while j < n {
-        let p = newest_row(state, k, user, roles[j]);
+        let p = rests::newest_row(state, k, user, roles[j]);
         j += 1;
         if p == 0 {
             continue;
@@ -264,32 +203,13 @@ pub fn effective(
     if PRIVILEGES <= privilege {
         return inner::refused(3);
     }
-    let p = newest_row(state, table::wide(state[ROW_COUNT]), user, role);
+    let p = rests::newest_row(state, table::wide(state[ROW_COUNT]), user, role);
     if p == 0 {
         return inner::refused(12);
     }
     let having = roles_having(rights, privilege);
     let mut seen = [0u16; 256];
     told(row_reaches(rules, kinds, &having, state, &mut seen, p - 1, user))
-}
-
-// The first role that the row rests on, or 256 where it rests on none.
-fn next_role(rules: &[u16], kinds: &[u16], row: Row) -> u16
-    ensures { λ r. ⌜ r ≡ getD (restsOn (policyOf (without-rights (now (rules .entry)) (now (kinds .entry)))) row) 0 roles ⌝ }
-{
-    let own = membership_of(rules, row);
-    let conditions = own.conditions;
-    let m = own.count;
-    let mut i: usize = 0;
-    while i < m {
-        let asked = roles_asked(kinds, conditions[i]);
-        let named = asked.roles;
-        if 0 < asked.count {
-            return named[0];
-        }
-        i += 1;
-    }
-    ROLES
 }
 
 // A row rests on earlier rows, so no role is written twice and the list has room for all.
@@ -321,10 +241,10 @@ pub fn chain(
     let mut q = role;
     let mut n: usize = 0;
     while q < ROLES {
-        k = newest_row(state, k, user, q) - 1;
+        k = rests::newest_row(state, k, user, q) - 1;
         list[n] = q;
         n += 1;
-        q = next_role(rules, kinds, table::row_at(state, k));
+        q = rests::next_role(rules, kinds, table::row_at(state, k));
     }
     fall::zero(list, n, LIST_SIZE);
     Answer {

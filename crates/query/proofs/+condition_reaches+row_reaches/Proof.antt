@@ -6,8 +6,9 @@ use native.Mathlib.Omega.{arith}
 use lib.ListN.{length, take, getD, length-set}
 use Rattle.model.specs.Lists.{any}
 use Rattle.table.specs.Entries.{without-rights}
+use Rattle.rests.proofs.Newest.{newest-within}
 use Rattle.query.specs.Reached.{reachedIn, conditionReaches, rowReaches, Clean}
-use Rattle.query.proofs.Reaching.{any-take-next, newest-within, reached-none, reached-at, clean-set, row-own, row-hit, row-none, condition-hit, condition-none}
+use Rattle.query.proofs.Reaching.{any-take-next, reached-none, reached-at, clean-set, row-own, row-hit, row-none, condition-hit, condition-none}
 use borrow.Author.Needs.{needs}
 use borrow.Fn.Kinds.{In}
 use borrow.Fn.PlainCycle.{Measures, is, falls, and}
@@ -18,9 +19,9 @@ use Rattle.query.proofs.row_reaches.Reads as row-reaches
 use Rattle.query.proofs.row_reaches.Kinds as row-reaches-kinds
 use Rattle.query.proofs.+condition_reaches+row_reaches.Lts-row_reaches as row-reaches-lts
 use Rattle.query.proofs.has_right.Reads as has-right-reads
-use Rattle.query.proofs.membership_of.Reads as membership-of-reads
-use Rattle.query.proofs.newest_row.Reads as newest-row-reads
-use Rattle.query.proofs.roles_asked.Reads as roles-asked-reads
+use Rattle.rests.proofs.membership_of.Reads as membership-of-reads
+use Rattle.rests.proofs.newest_row.Reads as newest-row-reads
+use Rattle.rests.proofs.roles_asked.Reads as roles-asked-reads
 use Rattle.table.proofs.row_at.Reads as row-at-reads
 use Rattle.query.proofs.+condition_reaches+row_reaches.{statement}
 use Rattle.query.proofs.+condition_reaches+row_reaches.Tie.{close}

@@ -13,8 +13,8 @@ use Rattle.model.specs.Chain.{written}
 use Rattle.model.specs.Calls.{isUser, isRole}
 use Rattle.inner.specs.Lent.{lent}
 use Rattle.inner.proofs.Codes.{sound-sized, out-of-range}
-use Rattle.query.specs.Reached.{newest}
-use Rattle.query.proofs.Reaching.{newest-within}
+use Rattle.rests.specs.Newest.{newest}
+use Rattle.rests.proofs.Newest.{newest-within}
 use Rattle.query.proofs.Chaining.{onward, walk-starts, walk-ends}
 use Rattle.query.proofs.Listing.{active-newest, chain-out, chain-inactive, chain-written, turn-stands, turn-written}
 use borrow.Author.Needs.{needs}

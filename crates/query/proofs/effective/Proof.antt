@@ -6,7 +6,8 @@ use Rattle.model.specs.Calls.{isUser, isRole, isPrivilege}
 use Rattle.table.specs.Entries.{without-rights}
 use Rattle.inner.proofs.Codes.{sound-sized, out-of-range}
 use Rattle.query.proofs.Having.{sound-rights}
-use Rattle.query.proofs.Reaching.{newest-within, clean-zeros}
+use Rattle.rests.proofs.Newest.{newest-within}
+use Rattle.query.proofs.Reaching.{clean-zeros}
 use Rattle.query.proofs.Telling.{effective-out, effective-inactive, effective-told}
 use borrow.Author.Needs.{needs}
 use Rattle.query.proofs.effective.Statement.{statement}

@@ -5,10 +5,10 @@ use native.Mathlib.Omega.{arith}
 use Rattle.model.specs.Layout.{policyOf}
 use Rattle.model.specs.Conditions.{ruleNumbered}
 use Rattle.table.specs.Entries.{without-rights}
-use Rattle.query.proofs.Reaching.{own-rule}
+use Rattle.rests.proofs.Asking.{own-rule}
 use borrow.Author.Needs.{needs}
-use Rattle.query.proofs.membership_of.Statement.{statement}
-use Rattle.query.proofs.membership_of.Tie as tie
+use Rattle.rests.proofs.membership_of.Statement.{statement}
+use Rattle.rests.proofs.membership_of.Tie as tie
 
 wide-requires : tie.Need-wide-requires
 wide-requires c κs = search needs
