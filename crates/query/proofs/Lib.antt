@@ -1,4 +1,3 @@
-pub mod Having
 pub mod Invoking
 pub mod Reaching
 pub mod Telling

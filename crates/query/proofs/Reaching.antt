@@ -21,7 +21,8 @@ use Rattle.table.specs.Entries.{rowAt, firstRows, without-rights}
 use Rattle.rests.specs.Newest.{newest}
 use Rattle.rests.proofs.Newest.{rows-more}
 use Rattle.rests.proofs.Asking.{roles-same}
-use Rattle.query.specs.Reached.{hasRight, carried, reachedIn, conditionReaches, rowReaches, Clean}
+use Rattle.direct.specs.Having.{hasRight}
+use Rattle.query.specs.Reached.{carried, reachedIn, conditionReaches, rowReaches, Clean}
 
 -- ── the first elements of a list, searched one by one ──
 

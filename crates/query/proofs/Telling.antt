@@ -23,7 +23,8 @@ use Rattle.inner.proofs.Codes.{own-refuses, own-accepts, in-range, found, activ
 use Rattle.rests.specs.Newest.{newest}
 use Rattle.rests.proofs.Newest.{newest-active, newest-some}
 use Rattle.rests.proofs.Stepping.{rests-same}
-use Rattle.query.specs.Reached.{hasRight, Having, carried, reachedIn, rowReaches}
+use Rattle.direct.specs.Having.{hasRight, Having}
+use Rattle.query.specs.Reached.{carried, reachedIn, rowReaches}
 use Rattle.query.proofs.Reaching.{reached-at}
 
 -- a role carries the privilege, by the roles that have it themselves or by the rights

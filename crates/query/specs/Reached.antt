@@ -1,27 +1,16 @@
 -- Effective privileges by places, as code asks for them: row k asks the rows before it.
 use Prim.Native.Nat.{ℕ}
 use mathlib.Core.Path.{_≡_}
-use mathlib.Core.Bool.{Bool, false, _&&_, _||_, cond}
+use mathlib.Core.Bool.{Bool, false, _||_, cond}
 use mathlib.Core.List.{List, [], _∷_, reverse}
-use lib.Dec.{ltb}
 use lib.ListN.{getD}
 use Rattle.model.specs.Lists.{any}
-use Rattle.model.specs.Limits.{roles}
 use Rattle.model.specs.Records.{Tables}
 use Rattle.model.specs.Layout.{policyOf}
 use Rattle.model.specs.Conditions.{isRow, meant, rolesAsked, restsOn}
-use Rattle.model.specs.Effective.{direct}
 use Rattle.model.specs.declared.Row.{Row}
 use Rattle.table.specs.Entries.{rowAt, firstRows}
-use Rattle.inner.specs.Lent.{lent}
-
--- the role is one of those that have the privilege; the list has an entry for each role
-unfoldable pub hasRight : List Bool → ℕ → Bool
-hasRight having q = ltb q roles && getD having q false
-
--- those are the roles that have the privilege x themselves
-unfoldable pub Having : List ℕ → ℕ → List Bool → Type 0
-Having rights x having = (q : ℕ) → hasRight having q ≡ direct (policyOf (lent [] [] rights)) q x
+use Rattle.direct.specs.Having.{hasRight}
 
 -- the model's `carries`, where it is known which roles have the privilege themselves
 abbrev pub carried : Tables → List Bool → ℕ → List Row → ℕ → Bool

@@ -1,21 +1,15 @@
 // The calls that only ask, on sound tables, for code that can show that they are sound. Each equals the model's call.
 ghost use mathlib.Core.Path.{_≡_};
-ghost use mathlib.Core.Bool.{_&&_, cond};
-ghost use mathlib.Core.List.{[]};
+ghost use mathlib.Core.Bool.{cond};
 ghost use Prim.Native.Nat.{_<_};
-ghost use lib.Dec.{T, eqb};
 ghost use lib.ListN.{length};
-ghost use Rattle.model.specs.Lists.{all};
 ghost use Rattle.model.specs.Limits.{stateSize, mostRows};
-ghost use Rattle.model.specs.Layout.{decode, policyOf};
-ghost use Rattle.model.specs.Sound.{rightFits};
-ghost use Rattle.model.specs.Calls.{invoke as invokeCall, effective as effectiveCall, chain as chainCall, allowed};
+ghost use Rattle.model.specs.Calls.{invoke as invokeCall, effective as effectiveCall, chain as chainCall};
 ghost use Rattle.model.specs.Words.{Sound};
-ghost use Rattle.table.specs.Entries.{Sized, without-rights};
+ghost use Rattle.table.specs.Entries.{without-rights};
 ghost use Rattle.inner.specs.Lent.{lent, Answers, AnswersWith};
-ghost use Rattle.query.specs.Reached.{hasRight, Having, conditionReaches, rowReaches, Clean};
+ghost use Rattle.query.specs.Reached.{conditionReaches, rowReaches, Clean};
 use model::Answer;
-use model::Row;
 
 const USERS: u16 = 4096;
 
@@ -27,8 +21,6 @@ const ROW_COUNT: usize = 64;
 
 const LIST_SIZE: usize = 256;
 
-const RIGHT_WIDTH: usize = 2;
-
 // Accepted, with 1 or 0.
 fn told(so: bool) -> Answer
     ensures { λ r. ⌜ (r .code ≡ 0) × (r .second ≡ cond so 1 0) ⌝ }
@@ -37,61 +29,6 @@ fn told(so: bool) -> Answer
         return Answer { code: 0, second: 1 };
     }
     inner::refused(0)
-}
-
-// Which roles have the privilege themselves: one pass over the rights serves all the rows that are asked afterwards.
-fn roles_having(rights: &[u16], privilege: u16) -> [bool; 256]
-    requires { ⌜ T (all rightFits (policyOf (lent [] [] (now rights)) .rights)) ⌝ }
-    ensures { λ r. ⌜ Having (now (rights .entry)) privilege r ⌝ }
-{
-    let mut having = [false; 256];
-    let n = rights.len() / RIGHT_WIDTH;
-    let mut i: usize = 0;
-    while i < n {
-        let right = table::right_at(rights, i);
-        i += 1;
-        if right.privilege == privilege {
-            having[table::wide(right.role)] = true;
-        }
-    }
-    having
-}
-
-// The role has the privilege itself.
-fn has_right(having: &[bool; 256], role: u16) -> bool
-    ensures { λ r. ⌜ r ≡ hasRight (now (having .entry)) role ⌝ }
-{
-    if role < ROLES {
-        return having[table::wide(role)];
-    }
-    false
-}
-
-// The row is the user's, and its role has the privilege.
-fn row_carries(having: &[bool; 256], row: Row, user: u16) -> bool
-    ensures { λ r. ⌜ r ≡ (eqb (row .user) user && hasRight (now (having .entry)) (row .role)) ⌝ }
-{
-    if row.user == user {
-        return has_right(having, row.role);
-    }
-    false
-}
-
-// Some active role of the user has the privilege.
-fn may_invoke(rights: &[u16], state: &[u16], user: u16, privilege: u16) -> bool
-    requires { ⌜ Sized (now state) × T (all rightFits (policyOf (lent [] [] (now rights)) .rights)) ⌝ }
-    ensures { λ r. ⌜ r ≡ allowed (policyOf (lent [] [] (now (rights .entry)))) (decode (now (state .entry)) .rows) user privilege ⌝ }
-{
-    let having = roles_having(rights, privilege);
-    let n = table::wide(state[ROW_COUNT]);
-    let mut i: usize = 0;
-    while i < n {
-        if row_carries(&having, table::row_at(state, i), user) {
-            return true;
-        }
-        i += 1;
-    }
-    false
 }
 
 pub fn invoke(
@@ -111,7 +48,7 @@ pub fn invoke(
     if PRIVILEGES <= privilege {
         return inner::refused(3);
     }
-    told(may_invoke(rights, state, user, privilege))
+    told(direct::may_invoke(rights, state, user, privilege))
 }
 
 // Row k carries the privilege. Rows found not to carry it are marked and not asked again: a rule may name one role eight times.
@@ -132,7 +69,7 @@ fn row_reaches(
         return false;
     }
     let row = table::row_at(state, k);
-    if has_right(having, row.role) {
+    if direct::has_right(having, row.role) {
         return true;
     }
     let own = rests::membership_of(rules, row);
@@ -207,7 +144,7 @@ pub fn effective(
     if p == 0 {
         return inner::refused(12);
     }
-    let having = roles_having(rights, privilege);
+    let having = direct::roles_having(rights, privilege);
     let mut seen = [0u16; 256];
     told(row_reaches(rules, kinds, &having, state, &mut seen, p - 1, user))
 }

@@ -1,7 +1,7 @@
 -- The newest row of a role: what code finds from the last row down is the newest, and the role is active exactly if there is one.
 use Prim.Native.Nat.{ℕ, zero, suc, _-_, _≤_, _<_}
 use mathlib.Core.Path.{_≡_, refl, sym, ap, _∙_}
-use mathlib.Core.Bool.{Bool, true, false, _||_, cond}
+use mathlib.Core.Bool.{Bool, true, false, _||_, cond, or-true}
 use mathlib.Core.Logic.{_≢_}
 use mathlib.Core.List.{List, [], _∷_, _++_}
 use native.Mathlib.Omega.{arith}
@@ -60,10 +60,6 @@ unfolding newest active
 newest-some s u q zero e = absurd (e refl)
 newest-some s u q (suc k) e = ap (any (isRow u q)) (rows-more s k) ∙ any-append (isRow u q) (firstRows s k) (rowAt s k ∷ []) ∙ go (isRow u q (rowAt s k)) e (newest-some s u q k)
   where
-    or-true : (a : Bool) → (a || true) ≡ true
-    or-true true = refl
-    or-true false = refl
-
     go : (b : Bool) → cond b (suc k) (newest s u q k) ≢ 0 → (newest s u q k ≢ 0 → active (firstRows s k) u q ≡ true) → (any (isRow u q) (firstRows s k) || (b || false)) ≡ true
     go true z f = or-true (any (isRow u q) (firstRows s k))
     go false z f = ap (λ (a : Bool). a || false) (f z)

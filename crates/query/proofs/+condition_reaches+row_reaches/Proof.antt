@@ -18,7 +18,7 @@ use Rattle.query.proofs.+condition_reaches+row_reaches.Lts-condition_re
 use Rattle.query.proofs.row_reaches.Reads as row-reaches
 use Rattle.query.proofs.row_reaches.Kinds as row-reaches-kinds
 use Rattle.query.proofs.+condition_reaches+row_reaches.Lts-row_reaches as row-reaches-lts
-use Rattle.query.proofs.has_right.Reads as has-right-reads
+use Rattle.direct.proofs.has_right.Reads as has-right-reads
 use Rattle.rests.proofs.membership_of.Reads as membership-of-reads
 use Rattle.rests.proofs.newest_row.Reads as newest-row-reads
 use Rattle.rests.proofs.roles_asked.Reads as roles-asked-reads

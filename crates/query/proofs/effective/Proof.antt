@@ -5,7 +5,7 @@ use borrow.Author.Tests.{le-ltb}
 use Rattle.model.specs.Calls.{isUser, isRole, isPrivilege}
 use Rattle.table.specs.Entries.{without-rights}
 use Rattle.inner.proofs.Codes.{sound-sized, out-of-range}
-use Rattle.query.proofs.Having.{sound-rights}
+use Rattle.direct.proofs.Having.{sound-rights}
 use Rattle.rests.proofs.Newest.{newest-within}
 use Rattle.query.proofs.Reaching.{clean-zeros}
 use Rattle.query.proofs.Telling.{effective-out, effective-inactive, effective-told}

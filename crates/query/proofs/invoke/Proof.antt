@@ -2,7 +2,7 @@ use mathlib.Core.List.{[], _∷_}
 use borrow.Author.Tests.{le-ltb}
 use Rattle.model.specs.Calls.{isUser, isPrivilege}
 use Rattle.inner.proofs.Codes.{sound-sized, out-of-range}
-use Rattle.query.proofs.Having.{sound-rights}
+use Rattle.direct.proofs.Having.{sound-rights}
 use Rattle.query.proofs.Invoking.{invoke-out, invoke-told}
 use borrow.Author.Needs.{needs}
 use Rattle.query.proofs.invoke.Statement.{statement}

@@ -1,15 +1,15 @@
 -- Which roles have the privilege themselves: what code writes right by right is what the model asks of a role.
 use Prim.Native.Nat.{ℕ, zero, suc, _+_, _/_, _≤_, _<_}
 use mathlib.Core.Path.{_≡_, refl, sym, ap, _∙_, subst}
-use mathlib.Core.Bool.{Bool, true, false, _&&_, _||_}
+use mathlib.Core.Bool.{Bool, true, false, _&&_, _||_, and-false, or-true, or-false}
 use mathlib.Core.Logic.{_⊎_, inl, inr}
 use mathlib.Core.List.{List, [], _∷_}
 use native.Mathlib.Omega.{arith}
-use lib.Dec.{T, eqb, ltb, ltb→lt}
+use lib.Dec.{eqb, ltb, ltb→lt}
 use borrow.Author.Tests.{eq-eqb, ne-eqb, eqb-true, eqb-false, lt-ltb, le-ltb}
 use lib.ListN.{length, getD, set, replicate, List·getD-eq-default}
 use lib.Seq.{getD-set-same, getD-set-other}
-use Rattle.model.specs.Lists.{any, all}
+use Rattle.model.specs.Lists.{any}
 use Rattle.model.specs.Layout.{policyOf, rightFrom}
 use Rattle.model.specs.Effective.{direct}
 use Rattle.model.specs.Sound.{policyClauses, rightClauses, rightFits}
@@ -19,24 +19,12 @@ use Rattle.model.specs.declared.Row.{Row}
 use Rattle.model.proofs.Tests.{lt-or-ge, each, all-of, any-append}
 use Rattle.table.specs.Entries.{entry, entries, rightAt}
 use Rattle.table.proofs.Entries.{entries-more, entry-member}
-use Rattle.inner.specs.Lent.{lent}
-use Rattle.query.specs.Reached.{hasRight, Having}
+use Rattle.sound.specs.Lent.{lent}
+use Rattle.direct.specs.Having.{RightsFit, hasRight, Having}
 
 -- the right is one of the role to the privilege
 abbrev isRight : ℕ → ℕ → Right → Bool
 isRight x q r = eqb (r .role) q && eqb (r .privilege) x
-
-or-false : (a : Bool) → (a || false) ≡ a
-or-false true = refl
-or-false false = refl
-
-or-true : (a : Bool) → (a || true) ≡ true
-or-true true = refl
-or-true false = refl
-
-and-false : (a : Bool) → (a && false) ≡ false
-and-false true = refl
-and-false false = refl
 
 module _ (rights : List ℕ) (x : ℕ) where
   -- entry q says whether one of the first i rights is role q's to the privilege
@@ -98,12 +86,12 @@ module _ (rights : List ℕ) (x : ℕ) where
 -- ── sound rights ──
 
 -- each names a role that there is
-pub right-role : (rights : List ℕ) → T (all rightFits (policyOf (lent [] [] rights) .rights)) → (i : ℕ) → i < length rights / 2 → (right : Right) → right ≡ rightAt rights i → right .role < 256
+pub right-role : (rights : List ℕ) → RightsFit rights → (i : ℕ) → i < length rights / 2 → (right : Right) → right ≡ rightAt rights i → right .role < 256
 unfolding policyOf rightAt rightClauses
 right-role rights f i l right e =
     subst (λ (r : Right). r .role < 256) (sym e)
     (ltb→lt (rightAt rights i .role) 256 (each (rightClauses (rightAt rights i)) (all-of rightFits (entries rightFrom 2 rights (length rights / 2)) f (rightAt rights i) (entry-member rightFrom 2 rights (length rights / 2) i l)) .0))
 
-pub sound-rights : (rules kinds rights s : List ℕ) → Sound (lent rules kinds rights) s → T (all rightFits (policyOf (lent [] [] rights) .rights))
+pub sound-rights : (rules kinds rights s : List ℕ) → Sound (lent rules kinds rights) s → RightsFit rights
 unfolding policyClauses policyOf
 sound-rights rules kinds rights s h = each (policyClauses (lent rules kinds rights)) (h .policy) .1 .1 .1 .1 .1 .1 .1 .1 .0

@@ -3,10 +3,10 @@ use Prim.Native.Nat.{_≤_, _-_}
 use mathlib.Core.Path.{_≡_}
 use native.Mathlib.Omega.{arith}
 use lib.ListN.{length, length-set}
-use Rattle.query.proofs.Having.{Said, said-none, said-other, said-more, said-all, right-role}
+use Rattle.direct.proofs.Having.{Said, said-none, said-other, said-more, said-all, right-role}
 use borrow.Author.Needs.{needs}
-use Rattle.query.proofs.roles_having.Statement.{statement}
-use Rattle.query.proofs.roles_having.Tie as tie
+use Rattle.direct.proofs.roles_having.Statement.{statement}
+use Rattle.direct.proofs.roles_having.Tie as tie
 
 abbrev Inv-loop : tie.InvT-loop
 Inv-loop rights privilege having₀ n i₀ having i = (i ≤ n) × (length having ≡ 256) × Said rights privilege i having

@@ -3,10 +3,10 @@ use mathlib.Core.Path.{sym, ap, _∙_}
 use mathlib.Core.Bool.{Bool, false, _&&_}
 use borrow.Author.Tests.{lt-ltb, le-ltb}
 use lib.ListN.{getD}
-use Rattle.query.specs.Reached.{hasRight}
+use Rattle.direct.specs.Having.{hasRight}
 use borrow.Author.Needs.{needs}
-use Rattle.query.proofs.has_right.Statement.{statement}
-use Rattle.query.proofs.has_right.Tie as tie
+use Rattle.direct.proofs.has_right.Statement.{statement}
+use Rattle.direct.proofs.has_right.Tie as tie
 
 wide-requires : tie.Need-wide-requires
 wide-requires c κs = search needs

@@ -1,10 +1,10 @@
 use mathlib.Core.Path.{sym, ap, _∙_}
 use mathlib.Core.Bool.{Bool, _&&_}
 use borrow.Author.Tests.{eq-eqb, ne-eqb}
-use Rattle.query.specs.Reached.{hasRight}
+use Rattle.direct.specs.Having.{hasRight}
 use borrow.Author.Needs.{needs}
-use Rattle.query.proofs.row_carries.Statement.{statement}
-use Rattle.query.proofs.row_carries.Tie as tie
+use Rattle.direct.proofs.row_carries.Statement.{statement}
+use Rattle.direct.proofs.row_carries.Tie as tie
 
 has-right-requires : tie.Need-has-right-requires
 has-right-requires c κs = search needs

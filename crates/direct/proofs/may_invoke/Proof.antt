@@ -12,11 +12,11 @@ use Rattle.model.specs.Calls.{allowed}
 use Rattle.model.specs.declared.Row.{Row}
 use Rattle.table.specs.Entries.{entries, rowAt}
 use Rattle.table.proofs.Entries.{any-next, any-hit}
-use Rattle.inner.specs.Lent.{lent}
-use Rattle.query.proofs.Having.{row-having}
+use Rattle.sound.specs.Lent.{lent}
+use Rattle.direct.proofs.Having.{row-having}
 use borrow.Author.Needs.{needs}
-use Rattle.query.proofs.may_invoke.Statement.{statement}
-use Rattle.query.proofs.may_invoke.Tie as tie
+use Rattle.direct.proofs.may_invoke.Statement.{statement}
+use Rattle.direct.proofs.may_invoke.Tie as tie
 
 abbrev test : List ℕ → ℕ → ℕ → Row → Bool
 test rights u x r = eqb (r .user) u && direct (policyOf (lent [] [] rights)) (r .role) x
