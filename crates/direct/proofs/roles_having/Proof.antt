@@ -27,13 +27,13 @@ wide-requires : tie.Need-wide-requires Inv-loop μ-loop
 wide-requires c κs = search needs
 
 array-write-having : tie.Need-array-write-having Inv-loop μ-loop
-array-write-having c = omega (arith, c .wide .ensures, c .before .before .before .before .before .loop .inv .1, right-role (c .before .before .before .before .before .before .before .args .rights .now) (c .before .before .before .before .before .before .before .pre) (c .before .before .before .before .before .loop .i) (c .before .before .before .before .loop-test .taken) (c .before .before .before .right-at .result) (c .before .before .before .right-at .ensures))
+array-write-having c = omega (arith, c .wide .ensures, c .before .before .before .before .before .loop .inv .1, right-role (c .before .before .before .before .before .before .before .args .rights .now) (c .before .before .before .before .before .before .before .pre) (c .before .before .before .before .before .loop .i) (omega arith) (c .before .before .before .right-at .result) (c .before .before .before .right-at .ensures))
 
 loop-less : tie.Need-loop-less Inv-loop μ-loop
 loop-less c = search needs
 
 loop-again : tie.Need-loop-again Inv-loop μ-loop
-loop-again c = (search needs, simp length-set (c .before .before .before .before .before .loop .inv .1), said-more (c .before .before .before .before .before .before .before .args .rights .now) (c .before .before .before .before .before .before .before .args .privilege) (c .before .before .before .before .before .loop .i) (c .wide .result) (c .before .before .before .right-at .result) (c .before .before .before .before .before .loop .having) (c .before .before .before .right-at .ensures) (c .before .if1 .taken) (c .wide .ensures) (omega (arith, c .wide .ensures, c .before .before .before .before .before .loop .inv .1, right-role (c .before .before .before .before .before .before .before .args .rights .now) (c .before .before .before .before .before .before .before .pre) (c .before .before .before .before .before .loop .i) (c .before .before .before .before .loop-test .taken) (c .before .before .before .right-at .result) (c .before .before .before .right-at .ensures))) (c .before .before .before .before .before .loop .inv .2))
+loop-again c = (search needs, simp length-set (c .before .before .before .before .before .loop .inv .1), said-more (c .before .before .before .before .before .before .before .args .rights .now) (c .before .before .before .before .before .before .before .args .privilege) (c .before .before .before .before .before .loop .i) (c .wide .result) (c .before .before .before .right-at .result) (c .before .before .before .before .before .loop .having) (c .before .before .before .right-at .ensures) (c .before .if1 .taken) (c .wide .ensures) (omega (arith, c .wide .ensures, c .before .before .before .before .before .loop .inv .1, right-role (c .before .before .before .before .before .before .before .args .rights .now) (c .before .before .before .before .before .before .before .pre) (c .before .before .before .before .before .loop .i) (omega arith) (c .before .before .before .right-at .result) (c .before .before .before .right-at .ensures))) (c .before .before .before .before .before .loop .inv .2))
 
 loop-less-2 : tie.Need-loop-less-2 Inv-loop μ-loop
 loop-less-2 c = search needs
