@@ -1,21 +1,22 @@
 -- Judged first: an unsound table is a refusal of every call, and what is left are sound tables.
-use Prim.Native.Nat.{ℕ}
+use Prim.Native.Nat.{ℕ, _/_, _≤_}
 use mathlib.Core.Path.{_≡_, refl, sym, ap, _∙_, subst⁻¹}
 use mathlib.Core.Bool.{Bool, true, false, not, cond}
 use mathlib.Core.Logic.{_≢_}
 use mathlib.Core.List.{List, [], _∷_}
 use native.Mathlib.Omega.{arith}
-use lib.Dec.{T, eqb}
+use lib.Dec.{T, eqb, leb→le}
 use lib.ListN.{length}
 use borrow.Author.Tests.{ne-eqb}
 use Rattle.model.specs.Records.{Tables}
-use Rattle.model.specs.Layout.{policyOf}
-use Rattle.model.specs.Sound.{soundPolicy, sound}
+use Rattle.model.specs.Layout.{policyOf, kindFrom}
+use Rattle.model.specs.Sound.{policyClauses, soundPolicy, sound}
 use Rattle.model.specs.Outcome.{Refusal, firstCode, Course, judgedFirst}
 use Rattle.model.specs.Calls.{Call, fresh, freshOn, courseOf}
 use Rattle.model.specs.Words.{Sound, FirstApplies, here, later}
 use Rattle.model.specs.declared.Answer.{Answer}
-use Rattle.model.proofs.Tests.{of-false}
+use Rattle.model.proofs.Tests.{of-false, of-true, each}
+use Rattle.table.proofs.Entries.{length-entries}
 use Rattle.inner.specs.Lent.{lent, AnswersWith, Answers}
 use Rattle.inner.proofs.Codes.{refuses}
 use Rattle.calls.specs.Judgement.{judgement}
@@ -58,3 +59,8 @@ all-sound t s e f = sym (λ i. cond (not (e i)) 1 (cond (not (f i)) 2 0))
 pub fresh-length : (s : List ℕ) (r : Answer) → r .code ≡ 2 → r .second ≡ 0 → length s ≢ 1602 → Answers (lent [] [] []) s fresh r s
 unfolding courseOf freshOn
 fresh-length s r a b n = refuses (lent [] [] []) s [] fresh r 2 (omega arith) (a, b) (here (of-false (eqb (length s) 1602) (ne-eqb (length s) 1602 n)))
+
+-- a sound policy has at most 128 kinds
+pub few-kinds : (t : Tables) → soundPolicy t ≡ true → length (t .kinds) / 7 ≤ 128
+unfolding policyClauses policyOf
+few-kinds t e = omega (arith, leb→le (length (policyOf t .kinds)) 128 (each (policyClauses t) (of-true (soundPolicy t) e) .1 .1 .1 .1 .0), length-entries kindFrom 7 (t .kinds) (length (t .kinds) / 7))

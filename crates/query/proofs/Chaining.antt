@@ -3,32 +3,30 @@ use Prim.Native.Nat.{ℕ, zero, suc, _+_, _-_, _≤_, _<_, min}
 use mathlib.Core.Path.{_≡_, refl, sym, ap, _∙_, subst, subst⁻¹}
 use mathlib.Core.Bool.{Bool, true, false, not, _&&_, _||_, cond, true≢false}
 use mathlib.Core.Logic.{_⊎_, inl, inr, _≢_}
-use mathlib.Core.List.{List, [], _∷_, _++_, append-nil, append-assoc, List·Memᴰ, List·Memᴰ·head, List·Memᴰ·tail, List·Memᴰ·cases-cons, List·Memᴰ·not-nil}
+use mathlib.Core.List.{List, [], _∷_, _++_, append-nil, append-assoc, List·Memᴰ, List·Memᴰ·head, List·Memᴰ·cases-cons, List·Memᴰ·not-nil}
 use native.Mathlib.Omega.{arith}
-use native.Mathlib.Decide.{decLt}
 use lib.Dec.{T, eqb, ltb, eqb→eq, ltb→lt}
 use borrow.Author.Tests.{lt-ltb, le-ltb}
 use lib.ListN.{length, getD, take, drop, set, replicate, length-take, length-drop, length-replicate, getD-replicate, take-append-drop}
 use lib.Seq.{take-suc-set, getD-take, getD-drop, ext-getD}
 use native.Mathlib.Numerals.{add-one}
 use Rattle.model.specs.Lists.{allOverEarlier, among, those, joined, filledTo}
-use Rattle.model.specs.Limits.{roles}
 use Rattle.model.specs.Records.{Tables, Policy, World, worldOf}
 use Rattle.model.specs.Layout.{policyOf, decode, rowCount}
 use Rattle.model.specs.Conditions.{isRow, active, restsOn}
 use Rattle.model.specs.Sound.{rowSound}
-use Rattle.model.specs.Chain.{nextRole, written, someTwice}
+use Rattle.model.specs.Chain.{written, someTwice}
 use Rattle.model.specs.Words.{Sound}
 use Rattle.model.specs.declared.Row.{Row}
-use Rattle.model.proofs.Tests.{lt-or-ge, is-true, of-true, is-false, of-false, decide, refute, not-of, and-left, and-right, any-of, earlier-append}
+use Rattle.model.proofs.Tests.{lt-or-ge, is-true, of-true, is-false, refute, not-of, and-left, and-right, any-of, earlier-append}
 use Rattle.model.proofs.Parts.{without-append}
 use Rattle.model.proofs.Numbers.{sound-decode}
 use Rattle.model.proofs.Kept.{sound-rows}
-use Rattle.model.proofs.Support.{isRow-user, isRow-role, active-of, of-active, active-grows, rests-on-active, row-new, row-role, row-supported}
+use Rattle.model.proofs.Support.{isRow-user, isRow-role, rests-on-active, row-new, row-role, row-supported}
 use Rattle.table.specs.Entries.{rowAt, firstRows}
 use Rattle.fall.specs.Writes.{Zeroed}
-use Rattle.query.specs.Reached.{newest}
-use Rattle.query.proofs.Reaching.{rows-more, newest-active, newest-some, newest-within}
+use Rattle.rests.specs.Newest.{newest}
+use Rattle.rests.proofs.Newest.{rows-more, newest-active, newest-some, newest-within}
 
 -- what is still to be written from a role on, at most so many roles; 256 stands for no role
 abbrev pub onward : Tables → List ℕ → ℕ → ℕ → ℕ → List ℕ

@@ -1,6 +1,5 @@
 pub mod Invoking
 pub mod Reaching
 pub mod Telling
-pub mod Stepping
 pub mod Chaining
 pub mod Listing

@@ -24,10 +24,10 @@ use Rattle.table.specs.Entries.{rowAt, firstRows, without-rights}
 use Rattle.fall.specs.Writes.{Zeroed}
 use Rattle.inner.specs.Lent.{lent, AnswersWith}
 use Rattle.inner.proofs.Codes.{own-refuses, own-accepts, in-range, found, active-now}
-use Rattle.query.specs.Reached.{newest}
-use Rattle.query.proofs.Reaching.{newest-active}
+use Rattle.rests.specs.Newest.{newest}
+use Rattle.rests.proofs.Newest.{newest-active}
+use Rattle.rests.proofs.Stepping.{rests-same}
 use Rattle.query.proofs.Chaining.{onward, next-stands, walk-goes-on, never-twice, filled}
-use Rattle.query.proofs.Stepping.{rests-same}
 
 -- active in the first k rows: there is a newest row
 pub active-newest : (s : List ℕ) (u q k : ℕ) → active (firstRows s k) u q ≡ true → newest s u q k ≢ 0
@@ -63,7 +63,7 @@ module _ (rules kinds rights s list : List ℕ) (h : Sound (lent rules kinds rig
 
 module _ (rules kinds rights s : List ℕ) (h : Sound (lent rules kinds rights) s) (u q k p lower : ℕ) (row : Row) where
   next-is : p ≡ newest s u q k → row ≡ rowAt s (p - 1) → lower ≡ getD (restsOn (policyOf (without-rights rules kinds)) row) 0 256 → lower ≡ getD (restsOn (policyOf (lent rules kinds rights)) (rowAt s (newest s u q k - 1))) 0 256
-  next-is a b c = c ∙ ap (λ (l : List ℕ). getD l 0 256) (rests-same rules kinds rights row ∙ ap (restsOn (policyOf (lent rules kinds rights))) (b ∙ ap (λ (n : ℕ). rowAt s (n - 1)) a))
+  next-is a b c = c ∙ ap (λ (l : List ℕ). getD l 0 256) (rests-same (lent rules kinds rights) row ∙ ap (restsOn (policyOf (lent rules kinds rights))) (b ∙ ap (λ (n : ℕ). rowAt s (n - 1)) a))
 
   pub turn-stands : p ≡ newest s u q k → row ≡ rowAt s (p - 1) → lower ≡ getD (restsOn (policyOf (without-rights rules kinds)) row) 0 256 → newest s u q k ≢ 0 → k ≤ rowCount s → lower < 256 → newest s u lower (p - 1) ≢ 0
   turn-stands a b c z l r e = next-stands (lent rules kinds rights) s h u q k lower z l (next-is a b c) r (ap (λ (n : ℕ). newest s u lower (n - 1)) (sym a) ∙ e)

@@ -1,32 +1,28 @@
 -- Effective: what code asks row by row is the model's, and a marked row need not be asked again.
-use Prim.Native.Nat.{ℕ, zero, suc, _+_, _-_, _≤_, _<_, min}
-use mathlib.Core.Path.{_≡_, refl, sym, ap, _∙_, subst, subst⁻¹}
-use mathlib.Core.Bool.{Bool, true, false, not, _&&_, _||_, cond, true≢false}
-use mathlib.Core.Logic.{_⊎_, inl, inr, _≢_}
-use mathlib.Core.List.{List, [], _∷_, _++_, reverse, List·Memᴰ}
+use Prim.Native.Nat.{ℕ, zero, suc, _+_, _-_, _≤_, _<_}
+use mathlib.Core.Path.{_≡_, refl, sym, ap, _∙_, subst}
+use mathlib.Core.Bool.{Bool, true, false, _||_, cond}
+use mathlib.Core.Logic.{_≢_}
+use mathlib.Core.List.{List, [], _∷_, reverse, List·Memᴰ}
 use native.Mathlib.Omega.{arith}
 use native.Mathlib.Numerals.{add-one}
 use native.Mathlib.Decide.{decLt}
-use lib.Dec.{T, eqb, eqb→eq, ltb}
-use borrow.Author.Tests.{lt-ltb, le-ltb}
 use lib.ListN.{length, getD, take, set, replicate}
 use lib.Seq.{getD-set-other, take-suc, getD-take}
 use Rattle.model.specs.Lists.{any, joined}
-use Rattle.model.specs.Records.{Tables, Policy}
-use Rattle.model.specs.Layout.{policyOf, rowFrom, rowNumbers}
-use Rattle.model.specs.Conditions.{Condition, role, kind, fact, malformed, meant, isRow, active, membership, ruleNumbered, prerequisiteRoles, kindNumbered, noKind, rolesAsked, restsOn}
-use Rattle.model.specs.Effective.{direct, carries}
+use Rattle.model.specs.Records.{Tables}
+use Rattle.model.specs.Layout.{policyOf}
+use Rattle.model.specs.Conditions.{role, meant, isRow, membership, ruleNumbered, rolesAsked, restsOn}
 use Rattle.model.specs.declared.Row.{Row}
-use Rattle.model.specs.declared.Rule.{Rule}
-use Rattle.model.specs.declared.Kind.{Kind}
-use Rattle.model.proofs.Tests.{lt-or-ge, is-true, of-true, any-append, of-any, at-place}
+use Rattle.model.proofs.Tests.{is-true, of-true, any-append, of-any, at-place}
 use Rattle.model.proofs.Support.{isRow-role}
 use Rattle.model.proofs.Carried.{reverse-last}
 use Rattle.table.specs.Entries.{rowAt, firstRows, without-rights}
-use Rattle.table.proofs.Entries.{entries-more}
-use Rattle.table.proofs.Worlds.{take-least}
-use Rattle.inner.specs.Lent.{lent}
-use Rattle.query.specs.Reached.{newest, reachedIn, conditionReaches, rowReaches, Clean}
+use Rattle.rests.specs.Newest.{newest}
+use Rattle.rests.proofs.Newest.{rows-more}
+use Rattle.rests.proofs.Asking.{roles-same}
+use Rattle.direct.specs.Having.{hasRight}
+use Rattle.query.specs.Reached.{carried, reachedIn, conditionReaches, rowReaches, Clean}
 
 -- ── the first elements of a list, searched one by one ──
 
@@ -43,155 +39,61 @@ module _ {A B : Type 0} (test : B → Bool) (f : A → List B) where
   any-joined [] = refl
   any-joined (x ∷ l) = any-append test (f x) (joined f l) ∙ ap (λ (b : Bool). any test (f x) || b) (any-joined l)
 
--- ── the newest row ──
-
-module _ (s : List ℕ) (u q : ℕ) where
-  -- row i - 1 is the newest of the first i, or the newest stands before it
-  pub newest-here : (i : ℕ) → 0 < i → isRow u q (rowAt s (i - 1)) ≡ true → newest s u q i ≡ i
-  unfolding newest
-  newest-here zero h e = absurd (omega arith)
-  newest-here (suc i) h e = let k : i ≡ suc i - 1 = omega arith in ap (λ (b : Bool). cond b (suc i) (newest s u q i)) (ap (λ (n : ℕ). isRow u q (rowAt s n)) k ∙ e)
-
-  pub newest-before : (i : ℕ) → 0 < i → isRow u q (rowAt s (i - 1)) ≡ false → newest s u q (i - 1) ≡ newest s u q i
-  unfolding newest
-  newest-before zero h e = absurd (omega arith)
-  newest-before (suc i) h e = let k : i ≡ suc i - 1 = omega arith in ap (newest s u q) (sym k) ∙ sym (ap (λ (b : Bool). cond b (suc i) (newest s u q i)) (ap (λ (n : ℕ). isRow u q (rowAt s n)) k ∙ e))
-
-  pub newest-none : (i k : ℕ) → i ≤ 0 → newest s u q i ≡ newest s u q k → 0 ≡ newest s u q k
-  unfolding newest
-  newest-none zero k h e = e
-  newest-none (suc i) k h e = absurd (omega arith)
-
-  pub newest-within : (k : ℕ) → newest s u q k ≤ k
-  unfolding newest
-  newest-within zero = omega arith
-  newest-within (suc k) = go (isRow u q (rowAt s k)) (newest-within k)
-    where
-      go : (b : Bool) → newest s u q k ≤ k → cond b (suc k) (newest s u q k) ≤ suc k
-      go true h = omega arith
-      go false h = omega arith
-
--- the rows up to k, with row k behind them
-pub rows-more : (s : List ℕ) (k : ℕ) → firstRows s (suc k) ≡ firstRows s k ++ (rowAt s k ∷ [])
-unfolding firstRows rowAt
-rows-more s k = ap (λ (n : ℕ). firstRows s n) (sym (add-one k)) ∙ entries-more rowFrom 3 (rowNumbers s) k
-
--- the user is active in the role in the first k rows exactly if there is a newest row for it
-pub newest-active : (s : List ℕ) (u q k : ℕ) → newest s u q k ≡ 0 → active (firstRows s k) u q ≡ false
-unfolding newest active firstRows
-newest-active s u q zero e = refl
-newest-active s u q (suc k) e = go (isRow u q (rowAt s k)) refl e (newest-active s u q k)
-  where
-    go : (b : Bool) → isRow u q (rowAt s k) ≡ b → cond b (suc k) (newest s u q k) ≡ 0 → (newest s u q k ≡ 0 → active (firstRows s k) u q ≡ false) → active (firstRows s (suc k)) u q ≡ false
-    go true r z f = absurd (omega arith)
-    go false r z f = ap (any (isRow u q)) (rows-more s k) ∙ any-append (isRow u q) (firstRows s k) (rowAt s k ∷ []) ∙ (λ i. f z i || (r i || false))
-
-pub newest-some : (s : List ℕ) (u q k : ℕ) → newest s u q k ≢ 0 → active (firstRows s k) u q ≡ true
-unfolding newest active
-newest-some s u q zero e = absurd (e refl)
-newest-some s u q (suc k) e = ap (any (isRow u q)) (rows-more s k) ∙ any-append (isRow u q) (firstRows s k) (rowAt s k ∷ []) ∙ go (isRow u q (rowAt s k)) e (newest-some s u q k)
-  where
-    or-true : (a : Bool) → (a || true) ≡ true
-    or-true true = refl
-    or-true false = refl
-
-    go : (b : Bool) → cond b (suc k) (newest s u q k) ≢ 0 → (newest s u q k ≢ 0 → active (firstRows s k) u q ≡ true) → (any (isRow u q) (firstRows s k) || (b || false)) ≡ true
-    go true z f = or-true (any (isRow u q) (firstRows s k))
-    go false z f = ap (λ (a : Bool). a || false) (f z)
-
--- ── what a condition asks for ──
-
-module _ (kinds : List ℕ) (c : ℕ) where
-  pub asked-role : c < 256 → c ∷ [] ≡ rolesAsked (policyOf (without-rights [] kinds)) (meant c)
-  unfolding meant rolesAsked
-  asked-role h = sym (rw (lt-ltb c 256 h) refl)
-
-  pub asked-kind : (n : ℕ) (row : Kind) → 256 ≤ c → c < 384 → row ≡ kindNumbered (policyOf (without-rights [] kinds)) (c - 256) → length (row .prerequisites) ≡ 4 → n ≡ min (row .s) 4 → take n (row .prerequisites) ≡ rolesAsked (policyOf (without-rights [] kinds)) (meant c)
-  unfolding meant rolesAsked
-  asked-kind n row h k e size least =
-      ap (λ (m : ℕ). take m (row .prerequisites)) least
-      ∙ take-least (row .s) 4 (row .prerequisites) size
-      ∙ ap prerequisiteRoles e
-      ∙ sym (rw (le-ltb c 256 h, lt-ltb c 384 k) refl)
-
-  pub asked-none : 384 ≤ c → [] ≡ rolesAsked (policyOf (without-rights [] kinds)) (meant c)
-  unfolding meant rolesAsked
-  asked-none h = go (ltb c 448) (sym (rw (le-ltb c 256 (omega arith), le-ltb c 384 h) refl))
-    where
-      fact-or-not : (b : Bool) → [] ≡ rolesAsked (policyOf (without-rights [] kinds)) (cond b (fact (c - 384)) malformed)
-      fact-or-not true = refl
-      fact-or-not false = refl
-
-      go : (b : Bool) → rolesAsked (policyOf (without-rights [] kinds)) (cond b (fact (c - 384)) malformed) ≡ rolesAsked (policyOf (without-rights [] kinds)) (meant c) → [] ≡ rolesAsked (policyOf (without-rights [] kinds)) (meant c)
-      go b e = fact-or-not b ∙ e
-
--- ── the conditions of a row's own rule ──
-
-pub own-rule : (rules : List ℕ) (row : Row) (rule : Rule) (m : ℕ) → rule ≡ ruleNumbered (policyOf (without-rights rules [])) (row .rule) → length (rule .conditions) ≡ 8 → m ≡ min (rule .m) 8 → take m (rule .conditions) ≡ membership (ruleNumbered (policyOf (without-rights rules [])) (row .rule))
-own-rule rules row rule m e size least = ap (λ (n : ℕ). take n (rule .conditions)) least ∙ take-least (rule .m) 8 (rule .conditions) size ∙ ap membership e
-
 -- ── what a row asks ──
 
-pub roles-same : (p₁ p₂ : Policy) → p₁ .kinds ≡ p₂ .kinds → (c : Condition) → rolesAsked p₁ c ≡ rolesAsked p₂ c
-unfolding rolesAsked
-roles-same p₁ p₂ e (role q) = refl
-roles-same p₁ p₂ e (kind k) = ap (λ (ks : List Kind). prerequisiteRoles (getD ks k noKind)) e
-roles-same p₁ p₂ e (fact f) = refl
-roles-same p₁ p₂ e malformed = refl
-
-module _ (t : Tables) (s : List ℕ) (u x : ℕ) where
+module _ (t : Tables) (having : List Bool) (s : List ℕ) (u : ℕ) where
   -- a role with no row before k is not carried, and one with a newest row is carried if that row carries it
-  pub reached-none : (k q : ℕ) → newest s u q k ≡ 0 → reachedIn t s u x k q ≡ false
+  pub reached-none : (k q : ℕ) → newest s u q k ≡ 0 → reachedIn t having s u k q ≡ false
   unfolding newest reachedIn firstRows
   reached-none zero q e = refl
   reached-none (suc k) q e = go (isRow u q (rowAt s k)) refl e (reached-none k q)
     where
-      go : (b : Bool) → isRow u q (rowAt s k) ≡ b → cond b (suc k) (newest s u q k) ≡ 0 → (newest s u q k ≡ 0 → reachedIn t s u x k q ≡ false) → reachedIn t s u x (suc k) q ≡ false
+      go : (b : Bool) → isRow u q (rowAt s k) ≡ b → cond b (suc k) (newest s u q k) ≡ 0 → (newest s u q k ≡ 0 → reachedIn t having s u k q ≡ false) → reachedIn t having s u (suc k) q ≡ false
       go true r z f = absurd (omega arith)
       go false r z f =
-          ap (λ (l : List Row). carries (policyOf t) u x (reverse l) q) (rows-more s k)
-          ∙ ap (λ (l : List Row). carries (policyOf t) u x l q) (reverse-last (firstRows s k) (rowAt s k))
-          ∙ ap (λ (b : Bool). cond b (direct (policyOf t) q x || any (λ (lower : ℕ). carries (policyOf t) u x (reverse (firstRows s k)) lower) (restsOn (policyOf t) (rowAt s k))) (carries (policyOf t) u x (reverse (firstRows s k)) q)) r
+          ap (λ (l : List Row). carried t having u (reverse l) q) (rows-more s k)
+          ∙ ap (λ (l : List Row). carried t having u l q) (reverse-last (firstRows s k) (rowAt s k))
+          ∙ ap (λ (b : Bool). cond b (hasRight having q || any (λ (lower : ℕ). carried t having u (reverse (firstRows s k)) lower) (restsOn (policyOf t) (rowAt s k))) (carried t having u (reverse (firstRows s k)) q)) r
           ∙ f z
 
-  pub reached-at : (k q p : ℕ) → p ≡ newest s u q k → p ≢ 0 → reachedIn t s u x k q ≡ rowReaches t s u x (p - 1)
+  pub reached-at : (k q p : ℕ) → p ≡ newest s u q k → p ≢ 0 → reachedIn t having s u k q ≡ rowReaches t having s u (p - 1)
   unfolding newest reachedIn rowReaches
   reached-at zero q p e n = absurd (n e)
   reached-at (suc k) q p e n = go (isRow u q (rowAt s k)) refl e (reached-at k q p)
     where
-      here : cond (isRow u q (rowAt s k)) (direct (policyOf t) q x || any (λ (lower : ℕ). carries (policyOf t) u x (reverse (firstRows s k)) lower) (restsOn (policyOf t) (rowAt s k))) (carries (policyOf t) u x (reverse (firstRows s k)) q) ≡ reachedIn t s u x (suc k) q
-      here = sym (ap (λ (l : List Row). carries (policyOf t) u x (reverse l) q) (rows-more s k) ∙ ap (λ (l : List Row). carries (policyOf t) u x l q) (reverse-last (firstRows s k) (rowAt s k)))
+      here : cond (isRow u q (rowAt s k)) (hasRight having q || any (λ (lower : ℕ). carried t having u (reverse (firstRows s k)) lower) (restsOn (policyOf t) (rowAt s k))) (carried t having u (reverse (firstRows s k)) q) ≡ reachedIn t having s u (suc k) q
+      here = sym (ap (λ (l : List Row). carried t having u (reverse l) q) (rows-more s k) ∙ ap (λ (l : List Row). carried t having u l q) (reverse-last (firstRows s k) (rowAt s k)))
 
-      go : (b : Bool) → isRow u q (rowAt s k) ≡ b → p ≡ cond b (suc k) (newest s u q k) → (p ≡ newest s u q k → p ≢ 0 → reachedIn t s u x k q ≡ rowReaches t s u x (p - 1)) → reachedIn t s u x (suc k) q ≡ rowReaches t s u x (p - 1)
+      go : (b : Bool) → isRow u q (rowAt s k) ≡ b → p ≡ cond b (suc k) (newest s u q k) → (p ≡ newest s u q k → p ≢ 0 → reachedIn t having s u k q ≡ rowReaches t having s u (p - 1)) → reachedIn t having s u (suc k) q ≡ rowReaches t having s u (p - 1)
       go true r z f =
           let at : k ≡ p - 1 = omega arith in
           sym here
-          ∙ ap (λ (b : Bool). cond b (direct (policyOf t) q x || any (λ (lower : ℕ). carries (policyOf t) u x (reverse (firstRows s k)) lower) (restsOn (policyOf t) (rowAt s k))) (carries (policyOf t) u x (reverse (firstRows s k)) q)) r
-          ∙ ap (λ (w : ℕ). direct (policyOf t) w x || any (λ (lower : ℕ). carries (policyOf t) u x (reverse (firstRows s k)) lower) (restsOn (policyOf t) (rowAt s k))) (sym (isRow-role u q (rowAt s k) (of-true (isRow u q (rowAt s k)) r)))
-          ∙ ap (λ (w : ℕ). rowReaches t s u x w) at
+          ∙ ap (λ (b : Bool). cond b (hasRight having q || any (λ (lower : ℕ). carried t having u (reverse (firstRows s k)) lower) (restsOn (policyOf t) (rowAt s k))) (carried t having u (reverse (firstRows s k)) q)) r
+          ∙ ap (λ (w : ℕ). hasRight having w || any (λ (lower : ℕ). carried t having u (reverse (firstRows s k)) lower) (restsOn (policyOf t) (rowAt s k))) (sym (isRow-role u q (rowAt s k) (of-true (isRow u q (rowAt s k)) r)))
+          ∙ ap (λ (w : ℕ). rowReaches t having s u w) at
       go false r z f =
           sym here
-          ∙ ap (λ (b : Bool). cond b (direct (policyOf t) q x || any (λ (lower : ℕ). carries (policyOf t) u x (reverse (firstRows s k)) lower) (restsOn (policyOf t) (rowAt s k))) (carries (policyOf t) u x (reverse (firstRows s k)) q)) r
+          ∙ ap (λ (b : Bool). cond b (hasRight having q || any (λ (lower : ℕ). carried t having u (reverse (firstRows s k)) lower) (restsOn (policyOf t) (rowAt s k))) (carried t having u (reverse (firstRows s k)) q)) r
           ∙ f z n
 
   -- a row is its own role and the conditions of its own rule, the first m of them
-  row-conditions : (k : ℕ) → rowReaches t s u x k ≡ (direct (policyOf t) (rowAt s k .role) x || any (conditionReaches t s u x k) (membership (ruleNumbered (policyOf t) (rowAt s k .rule))))
+  row-conditions : (k : ℕ) → rowReaches t having s u k ≡ (hasRight having (rowAt s k .role) || any (conditionReaches t having s u k) (membership (ruleNumbered (policyOf t) (rowAt s k .rule))))
   unfolding rowReaches conditionReaches restsOn
   row-conditions k =
-      ap (λ (b : Bool). direct (policyOf t) (rowAt s k .role) x || b) (any-joined (reachedIn t s u x k) (λ (c : ℕ). rolesAsked (policyOf t) (meant c)) (membership (ruleNumbered (policyOf t) (rowAt s k .rule))))
+      ap (λ (b : Bool). hasRight having (rowAt s k .role) || b) (any-joined (reachedIn t having s u k) (λ (c : ℕ). rolesAsked (policyOf t) (meant c)) (membership (ruleNumbered (policyOf t) (rowAt s k .rule))))
 
   -- one more row that does not carry the privilege is marked
-  pub clean-set : (seen : List ℕ) (k : ℕ) → Clean t s u x seen → rowReaches t s u x k ≡ false → Clean t s u x (set seen k 1)
+  pub clean-set : (seen : List ℕ) (k : ℕ) → Clean t having s u seen → rowReaches t having s u k ≡ false → Clean t having s u (set seen k 1)
   unfolding Clean
   clean-set seen k h e j m = go (decLt j k) (decLt k j)
     where
-      other : ((j ≡ k) → ⊥) → rowReaches t s u x j ≡ false
+      other : ((j ≡ k) → ⊥) → rowReaches t having s u j ≡ false
       other n = h j (sym (getD-set-other seen k j 1 0 n) ∙ m)
 
-      go : Dec (j < k) → Dec (k < j) → rowReaches t s u x j ≡ false
+      go : Dec (j < k) → Dec (k < j) → rowReaches t having s u j ≡ false
       go (yes l) d = other (λ w. omega arith)
       go (no g) (yes l) = other (λ w. omega arith)
-      go (no g) (no g2) = ap (rowReaches t s u x) (omega (arith, g, g2)) ∙ e
+      go (no g) (no g2) = ap (rowReaches t having s u) (omega (arith, g, g2)) ∙ e
 
 zero-at : (n k : ℕ) → _≡_ {A = ℕ} (getD (replicate n 0) k 0) 0
 zero-at zero k = refl
@@ -199,41 +101,40 @@ zero-at (suc n) zero = refl
 zero-at (suc n) (suc k) = zero-at n k
 
 -- a scratch of zeros marks nothing
-pub clean-zeros : (t : Tables) (s : List ℕ) (u x n : ℕ) → Clean t s u x (replicate n 0)
+pub clean-zeros : (t : Tables) (having : List Bool) (s : List ℕ) (u n : ℕ) → Clean t having s u (replicate n 0)
 unfolding Clean
-clean-zeros t s u x n k m = absurd (omega (arith, zero-at n k))
+clean-zeros t having s u n k m = absurd (omega (arith, zero-at n k))
 
 -- ── what code finds, as the row's and the condition's answer ──
 
-module _ (rules kinds rights s : List ℕ) (u x : ℕ) where
+module _ (rules kinds : List ℕ) (having : List Bool) (s : List ℕ) (u : ℕ) where
   abbrev tables : Tables
-  tables = lent rules kinds rights
+  tables = without-rights rules kinds
 
   -- the row's own membership conditions, as code reads them
   own-conditions : (k m : ℕ) (row : Row) (cs : List ℕ) → row ≡ rowAt s k → take m cs ≡ membership (ruleNumbered (policyOf (without-rights rules [])) (row .rule)) → take m cs ≡ membership (ruleNumbered (policyOf tables) (rowAt s k .rule))
   unfolding policyOf
   own-conditions k m row cs e f = f ∙ ap (λ (r : Row). membership (ruleNumbered (policyOf tables) (r .rule))) e
 
-  pub row-own : (k : ℕ) (row : Row) → row ≡ rowAt s k → direct (policyOf (lent [] [] rights)) (row .role) x ≡ true → true ≡ rowReaches tables s u x k
-  unfolding rowReaches direct policyOf
-  row-own k row e d = sym (ap (λ (b : Bool). b || any (reachedIn tables s u x k) (restsOn (policyOf tables) (rowAt s k))) (ap (λ (r : Row). direct (policyOf tables) (r .role) x) (sym e) ∙ d))
+  pub row-own : (k : ℕ) (row : Row) → row ≡ rowAt s k → hasRight having (row .role) ≡ true → true ≡ rowReaches tables having s u k
+  unfolding rowReaches
+  row-own k row e d = sym (ap (λ (b : Bool). b || any (reachedIn tables having s u k) (restsOn (policyOf tables) (rowAt s k))) (ap (λ (r : Row). hasRight having (r .role)) (sym e) ∙ d))
 
-  pub row-hit : (k m i : ℕ) (row : Row) (cs : List ℕ) → row ≡ rowAt s k → take m cs ≡ membership (ruleNumbered (policyOf (without-rights rules [])) (row .rule)) → i < m → i < length cs → conditionReaches tables s u x k (getD cs i 0) ≡ true → true ≡ rowReaches tables s u x k
+  pub row-hit : (k m i : ℕ) (row : Row) (cs : List ℕ) → row ≡ rowAt s k → take m cs ≡ membership (ruleNumbered (policyOf (without-rights rules [])) (row .rule)) → i < m → i < length cs → conditionReaches tables having s u k (getD cs i 0) ≡ true → true ≡ rowReaches tables having s u k
   row-hit k m i row cs e f h l c =
-      let some : any (conditionReaches tables s u x k) (take m cs) ≡ true = any-take-hit (conditionReaches tables s u x k) cs 0 m i h l c in
-      sym (row-conditions tables s u x k ∙ or-right (direct (policyOf tables) (rowAt s k .role) x) (any (conditionReaches tables s u x k) (membership (ruleNumbered (policyOf tables) (rowAt s k .rule)))) (ap (any (conditionReaches tables s u x k)) (sym (own-conditions k m row cs e f)) ∙ some))
+      let some : any (conditionReaches tables having s u k) (take m cs) ≡ true = any-take-hit (conditionReaches tables having s u k) cs 0 m i h l c in
+      sym (row-conditions tables having s u k ∙ or-right (hasRight having (rowAt s k .role)) (any (conditionReaches tables having s u k) (membership (ruleNumbered (policyOf tables) (rowAt s k .rule)))) (ap (any (conditionReaches tables having s u k)) (sym (own-conditions k m row cs e f)) ∙ some))
     where
       or-right : (a b : Bool) → b ≡ true → (a || b) ≡ true
       or-right true b q = refl
       or-right false b q = q
 
   pub row-none : (k m i : ℕ) (row : Row) (cs : List ℕ) → row ≡ rowAt s k → take m cs ≡ membership (ruleNumbered (policyOf (without-rights rules [])) (row .rule)) → i ≤ m → m ≤ i
-      → direct (policyOf (lent [] [] rights)) (row .role) x ≡ false → any (conditionReaches tables s u x k) (take i cs) ≡ false → rowReaches tables s u x k ≡ false
-  unfolding direct policyOf
+      → hasRight having (row .role) ≡ false → any (conditionReaches tables having s u k) (take i cs) ≡ false → rowReaches tables having s u k ≡ false
   row-none k m i row cs e f h₁ h₂ d c =
       let at : i ≡ m = omega arith in
-      let none : any (conditionReaches tables s u x k) (membership (ruleNumbered (policyOf tables) (rowAt s k .rule))) ≡ false = ap (any (conditionReaches tables s u x k)) (sym (own-conditions k m row cs e f) ∙ ap (λ (n : ℕ). take n cs) (sym at)) ∙ c in
-      row-conditions tables s u x k ∙ (λ j. (ap (λ (r : Row). direct (policyOf tables) (r .role) x) (sym e) ∙ d) j || none j)
+      let none : any (conditionReaches tables having s u k) (membership (ruleNumbered (policyOf tables) (rowAt s k .rule))) ≡ false = ap (any (conditionReaches tables having s u k)) (sym (own-conditions k m row cs e f) ∙ ap (λ (n : ℕ). take n cs) (sym at)) ∙ c in
+      row-conditions tables having s u k ∙ (λ j. (ap (λ (r : Row). hasRight having (r .role)) (sym e) ∙ d) j || none j)
 
   -- the condition's roles, as code reads them
   asked-here : (n c : ℕ) (roles : List ℕ) → take n roles ≡ rolesAsked (policyOf (without-rights [] kinds)) (meant c) → take n roles ≡ rolesAsked (policyOf tables) (meant c)
@@ -241,13 +142,13 @@ module _ (rules kinds rights s : List ℕ) (u x : ℕ) where
   asked-here n c roles e = e ∙ roles-same (policyOf (without-rights [] kinds)) (policyOf tables) refl (meant c)
 
   pub condition-hit : (k n c j p : ℕ) (roles : List ℕ) → take n roles ≡ rolesAsked (policyOf (without-rights [] kinds)) (meant c) → length roles ≡ 4 → n ≤ 4 → j < n → p ≡ newest s u (getD roles j 0) k → p ≢ 0
-      → true ≡ rowReaches tables s u x (p - 1) → true ≡ conditionReaches tables s u x k c
+      → true ≡ rowReaches tables having s u (p - 1) → true ≡ conditionReaches tables having s u k c
   unfolding conditionReaches
   condition-hit k n c j p roles e size few h f z r =
-      sym (ap (any (reachedIn tables s u x k)) (sym (asked-here n c roles e)) ∙ any-take-hit (reachedIn tables s u x k) roles 0 n j h (omega arith) (reached-at tables s u x k (getD roles j 0) p f z ∙ sym r))
+      sym (ap (any (reachedIn tables having s u k)) (sym (asked-here n c roles e)) ∙ any-take-hit (reachedIn tables having s u k) roles 0 n j h (omega arith) (reached-at tables having s u k (getD roles j 0) p f z ∙ sym r))
 
-  pub condition-none : (k n c j : ℕ) (roles : List ℕ) → take n roles ≡ rolesAsked (policyOf (without-rights [] kinds)) (meant c) → j ≤ n → n ≤ j → any (reachedIn tables s u x k) (take j roles) ≡ false → false ≡ conditionReaches tables s u x k c
+  pub condition-none : (k n c j : ℕ) (roles : List ℕ) → take n roles ≡ rolesAsked (policyOf (without-rights [] kinds)) (meant c) → j ≤ n → n ≤ j → any (reachedIn tables having s u k) (take j roles) ≡ false → false ≡ conditionReaches tables having s u k c
   unfolding conditionReaches
   condition-none k n c j roles e h₁ h₂ a =
       let at : j ≡ n = omega arith in
-      sym (ap (any (reachedIn tables s u x k)) (sym (asked-here n c roles e) ∙ ap (λ (m : ℕ). take m roles) (sym at)) ∙ a)
+      sym (ap (any (reachedIn tables having s u k)) (sym (asked-here n c roles e) ∙ ap (λ (m : ℕ). take m roles) (sym at)) ∙ a)

@@ -1,26 +1,44 @@
 -- Effective: each answer that the code gives is the model's.
-use Prim.Native.Nat.{ℕ, _-_, _≤_, _<_}
+use Prim.Native.Nat.{ℕ, _-_, _<_}
 use mathlib.Core.Path.{_≡_, refl, sym, ap, _∙_}
-use mathlib.Core.Bool.{Bool, true, false, not, cond}
+use mathlib.Core.Bool.{Bool, not, _||_, cond}
 use mathlib.Core.Logic.{_≢_}
-use mathlib.Core.List.{List, [], _∷_}
+use mathlib.Core.List.{List, [], _∷_, reverse}
 use native.Mathlib.Omega.{arith}
 use lib.Dec.{T, lt→ltb}
-use Rattle.model.specs.Lists.{every}
+use Rattle.model.specs.Lists.{every, any}
 use Rattle.model.specs.Layout.{policyOf, decode, rowCount}
-use Rattle.model.specs.Conditions.{active}
-use Rattle.model.specs.Effective.{effectively}
+use Rattle.model.specs.Conditions.{isRow, active}
+use Rattle.model.specs.Effective.{direct, carries, effectively}
 use Rattle.model.specs.Outcome.{judgedFirst, given}
 use Rattle.model.specs.Calls.{effective, isUser, isRole, isPrivilege, effectiveOn, courseOf}
 use Rattle.model.specs.Words.{Sound, none, here, later}
 use Rattle.model.specs.declared.Answer.{Answer}
+use Rattle.model.specs.declared.Row.{Row}
 use Rattle.model.proofs.Tests.{of-false}
 use Rattle.model.proofs.Numbers.{encode-decode, sound-formed}
-use Rattle.table.specs.Entries.{firstRows}
+use Rattle.table.specs.Entries.{firstRows, without-rights}
 use Rattle.inner.specs.Lent.{lent, Answers}
 use Rattle.inner.proofs.Codes.{own-refuses, own-accepts, in-range, found, active-now}
-use Rattle.query.specs.Reached.{newest, reachedIn, rowReaches}
-use Rattle.query.proofs.Reaching.{newest-active, newest-some, reached-at}
+use Rattle.rests.specs.Newest.{newest}
+use Rattle.rests.proofs.Newest.{newest-active, newest-some}
+use Rattle.rests.proofs.Stepping.{rests-same}
+use Rattle.direct.specs.Having.{hasRight, Having}
+use Rattle.query.specs.Reached.{carried, reachedIn, rowReaches}
+use Rattle.query.proofs.Reaching.{reached-at}
+
+-- a role carries the privilege, by the roles that have it themselves or by the rights
+carried-same : (rules kinds rights : List ℕ) (having : List Bool) (u x : ℕ) → Having rights x having → (rows : List Row) (q : ℕ) → carried (without-rights rules kinds) having u rows q ≡ carries (policyOf (lent rules kinds rights)) u x rows q
+unfolding Having direct policyOf
+carried-same rules kinds rights having u x h [] q = refl
+carried-same rules kinds rights having u x h (r ∷ earlier) q =
+    λ i.
+    cond (isRow u q r)
+    (itself i || any (λ (lower : ℕ). carried-same rules kinds rights having u x h earlier lower i) (rests-same (lent rules kinds rights) r i))
+    (carried-same rules kinds rights having u x h earlier q i)
+  where
+    itself : hasRight having q ≡ direct (policyOf (lent rules kinds rights)) q x
+    itself = h q
 
 module _ (rules kinds rights s : List ℕ) (h : Sound (lent rules kinds rights) s) (u q x : ℕ) where
   effective-is : courseOf (lent rules kinds rights) s [] (effective u q x) ≡ judgedFirst (lent rules kinds rights) s (effectiveOn (given (lent rules kinds rights) s []) u q x)
@@ -39,10 +57,10 @@ module _ (rules kinds rights s : List ℕ) (h : Sound (lent rules kinds rights) 
         (later (in-range (isUser u ∷ isRole q ∷ isPrivilege x ∷ []) (lt→ltb u 4096 in₁, (lt→ltb q 256 in₂, (lt→ltb x 1024 in₃, tt)))) (here (of-false (active (decode s .rows) u q) (sym (active-now s k u q all) ∙ newest-active s u q k e))))
 
     -- the answer is 1 or 0 as the newest row for the role carries the privilege, and the state is what it was
-    pub effective-told : (r : Answer) (b : Bool) (p : ℕ) → p ≡ newest s u q k → p ≢ 0 → (r .code ≡ 0) × (r .second ≡ cond b 1 0) → b ≡ rowReaches (lent rules kinds rights) s u x (p - 1) → Answers (lent rules kinds rights) s (effective u q x) r s
+    pub effective-told : (r : Answer) (b : Bool) (p : ℕ) (having : List Bool) → Having rights x having → p ≡ newest s u q k → p ≢ 0 → (r .code ≡ 0) × (r .second ≡ cond b 1 0) → b ≡ rowReaches (without-rights rules kinds) having s u (p - 1) → Answers (lent rules kinds rights) s (effective u q x) r s
     unfolding effectiveOn effectively decode reachedIn firstRows
-    effective-told r b p n some z f =
+    effective-told r b p having g n some z f =
         own-accepts (lent rules kinds rights) s [] h (effective u q x) _ effective-is r s [] (z .0)
         (later (in-range (isUser u ∷ isRole q ∷ isPrivilege x ∷ []) (lt→ltb u 4096 in₁, (lt→ltb q 256 in₂, (lt→ltb x 1024 in₃, tt)))) (later (found (active (decode s .rows) u q) (sym (active-now s k u q all) ∙ newest-some s u q k (λ w. some (n ∙ w)))) none))
-        (z .1 ∙ ap (λ (v : Bool). cond v 1 0) (f ∙ sym (reached-at (lent rules kinds rights) s u x k q p n some) ∙ ap (λ (m : ℕ). reachedIn (lent rules kinds rights) s u x m q) all))
+        (z .1 ∙ ap (λ (v : Bool). cond v 1 0) (f ∙ sym (reached-at (without-rights rules kinds) having s u k q p n some) ∙ ap (λ (m : ℕ). reachedIn (without-rights rules kinds) having s u m q) all ∙ carried-same rules kinds rights having u x g (reverse (firstRows s (rowCount s))) q))
         (sym (encode-decode s (sound-formed (policyOf (lent rules kinds rights)) s (h .state)))) refl

@@ -1,22 +1,15 @@
 // The calls that only ask, on sound tables, for code that can show that they are sound. Each equals the model's call.
 ghost use mathlib.Core.Path.{_≡_};
-ghost use mathlib.Core.Bool.{_&&_, cond};
-ghost use mathlib.Core.List.{[]};
-ghost use Prim.Native.Nat.{_<_, _≤_};
-ghost use lib.Dec.{eqb};
-ghost use lib.ListN.{length, getD, take};
-ghost use Rattle.model.specs.Limits.{roles, stateSize, mostRows};
-ghost use Rattle.model.specs.Layout.{decode, policyOf};
-ghost use Rattle.model.specs.Conditions.{meant, membership, ruleNumbered, rolesAsked, restsOn};
-ghost use Rattle.model.specs.Effective.{direct};
-ghost use Rattle.model.specs.Calls.{invoke as invokeCall, effective as effectiveCall, chain as chainCall, allowed};
+ghost use mathlib.Core.Bool.{cond};
+ghost use Prim.Native.Nat.{_<_};
+ghost use lib.ListN.{length};
+ghost use Rattle.model.specs.Limits.{stateSize, mostRows};
+ghost use Rattle.model.specs.Calls.{invoke as invokeCall, effective as effectiveCall, chain as chainCall};
 ghost use Rattle.model.specs.Words.{Sound};
-ghost use Rattle.table.specs.Entries.{Sized, without-rights};
+ghost use Rattle.table.specs.Entries.{without-rights};
 ghost use Rattle.inner.specs.Lent.{lent, Answers, AnswersWith};
-ghost use Rattle.query.specs.Reached.{newest, conditionReaches, rowReaches, Clean};
+ghost use Rattle.query.specs.Reached.{conditionReaches, rowReaches, Clean};
 use model::Answer;
-use model::Right;
-use model::Row;
 
 const USERS: u16 = 4096;
 
@@ -28,8 +21,6 @@ const ROW_COUNT: usize = 64;
 
 const LIST_SIZE: usize = 256;
 
-const RIGHT_WIDTH: usize = 2;
-
 // Accepted, with 1 or 0.
 fn told(so: bool) -> Answer
     ensures { λ r. ⌜ (r .code ≡ 0) × (r .second ≡ cond so 1 0) ⌝ }
@@ -38,57 +29,6 @@ fn told(so: bool) -> Answer
         return Answer { code: 0, second: 1 };
     }
     inner::refused(0)
-}
-
-// The right is one of the role to the privilege.
-fn right_is(right: Right, role: u16, privilege: u16) -> bool
-    ensures { λ r. ⌜ r ≡ (eqb (right .role) role && eqb (right .privilege) privilege) ⌝ }
-{
-    if right.role == role {
-        return right.privilege == privilege;
-    }
-    false
-}
-
-// The role has the privilege itself.
-pub fn has_right(rights: &[u16], role: u16, privilege: u16) -> bool
-    ensures { λ r. ⌜ r ≡ direct (policyOf (lent [] [] (now (rights .entry)))) role privilege ⌝ }
-{
-    let n = rights.len() / RIGHT_WIDTH;
-    let mut i: usize = 0;
-    while i < n {
-        if right_is(table::right_at(rights, i), role, privilege) {
-            return true;
-        }
-        i += 1;
-    }
-    false
-}
-
-// The row is the user's, and its role has the privilege.
-fn row_carries(rights: &[u16], row: Row, user: u16, privilege: u16) -> bool
-    ensures { λ r. ⌜ r ≡ (eqb (row .user) user && direct (policyOf (lent [] [] (now (rights .entry)))) (row .role) privilege) ⌝ }
-{
-    if row.user == user {
-        return has_right(rights, row.role, privilege);
-    }
-    false
-}
-
-// Some active role of the user has the privilege.
-fn may_invoke(rights: &[u16], state: &[u16], user: u16, privilege: u16) -> bool
-    requires { ⌜ Sized (now state) ⌝ }
-    ensures { λ r. ⌜ r ≡ allowed (policyOf (lent [] [] (now (rights .entry)))) (decode (now (state .entry)) .rows) user privilege ⌝ }
-{
-    let n = table::wide(state[ROW_COUNT]);
-    let mut i: usize = 0;
-    while i < n {
-        if row_carries(rights, table::row_at(state, i), user, privilege) {
-            return true;
-        }
-        i += 1;
-    }
-    false
 }
 
 pub fn invoke(
@@ -108,109 +48,38 @@ pub fn invoke(
     if PRIVILEGES <= privilege {
         return inner::refused(3);
     }
-    told(may_invoke(rights, state, user, privilege))
-}
-
-// The roles that a condition asks for: the first `count` of four.
-pub struct Asked {
-    pub count: usize,
-    pub roles: [u16; 4],
-}
-
-// A role asks for itself, a kind for its prerequisite roles, a fact for none.
-fn roles_asked(kinds: &[u16], condition: u16) -> Asked
-    ensures few { λ r. ⌜ r .count ≤ 4 ⌝ }
-    ensures asked { λ r. ⌜ take (r .count) (r .roles) ≡ rolesAsked (policyOf (without-rights [] (now (kinds .entry)))) (meant condition) ⌝ }
-{
-    if condition < 256 {
-        return Asked {
-            count: 1,
-            roles: [condition, 0, 0, 0],
-        };
-    }
-    if condition < 384 {
-        let row = table::kind_numbered(kinds, table::wide(condition - 256));
-        let roles = row.prerequisites;
-        let count = table::least(table::wide(row.s), 4);
-        return Asked { count, roles };
-    }
-    Asked {
-        count: 0,
-        roles: [0, 0, 0, 0],
-    }
-}
-
-// The membership conditions of the row's own rule: the first `count` of eight.
-pub struct Membership {
-    pub count: usize,
-    pub conditions: [u16; 8],
-}
-
-fn membership_of(rules: &[u16], row: Row) -> Membership
-    ensures few { λ r. ⌜ r .count ≤ 8 ⌝ }
-    ensures own { λ r. ⌜ take (r .count) (r .conditions) ≡ membership (ruleNumbered (policyOf (without-rights (now (rules .entry)) [])) (row .rule)) ⌝ }
-{
-    let rule = table::rule_numbered(rules, table::wide(row.rule));
-    let conditions = rule.conditions;
-    let count = table::least(table::wide(rule.m), 8);
-    Membership { count, conditions }
-}
-
-// The newest of the first k rows in which the user is active in the role: one more than its place, or 0 where there is none.
-fn newest_row(state: &[u16], k: usize, user: u16, role: u16) -> usize
-    requires { ⌜ (length (now state) ≡ stateSize) × (k ≤ mostRows) ⌝ }
-    ensures { λ r. ⌜ r ≡ newest (now (state .entry)) user role k ⌝ }
-{
-    let mut i = k;
-    while 0 < i {
-        if table::row_is(table::row_at(state, i - 1), user, role) {
-            return i;
-        }
-        i -= 1;
-    }
-    0
+    told(direct::may_invoke(rights, state, user, privilege))
 }
 
 // Row k carries the privilege. Rows found not to carry it are marked and not asked again: a rule may name one role eight times.
 fn row_reaches(
     rules: &[u16],
     kinds: &[u16],
-    rights: &[u16],
+    having: &[bool; 256],
     state: &[u16],
     seen: &mut [u16],
     k: usize,
     user: u16,
-    privilege: u16,
 ) -> bool
-    requires { ⌜ (length (now state) ≡ stateSize) × (k < mostRows) × (length (now seen) ≡ mostRows) × Clean (lent (now rules) (now kinds) (now rights)) (now state) user privilege (now seen) ⌝ }
-    ensures answer { λ r. ⌜ r ≡ rowReaches (lent (now (rules .entry)) (now (kinds .entry)) (now (rights .entry))) (now (state .entry)) user privilege k ⌝ }
-    ensures clean { λ r. ⌜ Clean (lent (now (rules .entry)) (now (kinds .entry)) (now (rights .entry))) (now (state .entry)) user privilege (now (seen .exit)) ⌝ }
+    requires { ⌜ (length (now state) ≡ stateSize) × (k < mostRows) × (length (now seen) ≡ mostRows) × Clean (without-rights (now rules) (now kinds)) (now having) (now state) user (now seen) ⌝ }
+    ensures answer { λ r. ⌜ r ≡ rowReaches (without-rights (now (rules .entry)) (now (kinds .entry))) (now (having .entry)) (now (state .entry)) user k ⌝ }
+    ensures clean { λ r. ⌜ Clean (without-rights (now (rules .entry)) (now (kinds .entry))) (now (having .entry)) (now (state .entry)) user (now (seen .exit)) ⌝ }
 {
     if seen[k] == 1 {
         return false;
     }
     let row = table::row_at(state, k);
-    if has_right(rights, row.role, privilege) {
+    if direct::has_right(having, row.role) {
         return true;
     }
-    let own = membership_of(rules, row);
+    let own = rests::membership_of(rules, row);
     let conditions = own.conditions;
     let m = own.count;
     let mut i: usize = 0;
     while i < m {
         let condition = conditions[i];
         i += 1;
-        if condition_reaches(
-            rules,
-            kinds,
-            rights,
-            state,
-            seen,
-            k,
-            user,
-            privilege,
-            condition,
-        ) {
+        if condition_reaches(rules, kinds, having, state, seen, k, user, condition) {
             return true;
         }
     }
@@ -222,29 +91,28 @@ fn row_reaches(
 fn condition_reaches(
     rules: &[u16],
     kinds: &[u16],
-    rights: &[u16],
+    having: &[bool; 256],
     state: &[u16],
     seen: &mut [u16],
     k: usize,
     user: u16,
-    privilege: u16,
     condition: u16,
 ) -> bool
-    requires { ⌜ (length (now state) ≡ stateSize) × (k < mostRows) × (length (now seen) ≡ mostRows) × Clean (lent (now rules) (now kinds) (now rights)) (now state) user privilege (now seen) ⌝ }
-    ensures answer { λ r. ⌜ r ≡ conditionReaches (lent (now (rules .entry)) (now (kinds .entry)) (now (rights .entry))) (now (state .entry)) user privilege k condition ⌝ }
-    ensures clean { λ r. ⌜ Clean (lent (now (rules .entry)) (now (kinds .entry)) (now (rights .entry))) (now (state .entry)) user privilege (now (seen .exit)) ⌝ }
+    requires { ⌜ (length (now state) ≡ stateSize) × (k < mostRows) × (length (now seen) ≡ mostRows) × Clean (without-rights (now rules) (now kinds)) (now having) (now state) user (now seen) ⌝ }
+    ensures answer { λ r. ⌜ r ≡ conditionReaches (without-rights (now (rules .entry)) (now (kinds .entry))) (now (having .entry)) (now (state .entry)) user k condition ⌝ }
+    ensures clean { λ r. ⌜ Clean (without-rights (now (rules .entry)) (now (kinds .entry))) (now (having .entry)) (now (state .entry)) user (now (seen .exit)) ⌝ }
 {
-    let asked = roles_asked(kinds, condition);
+    let asked = rests::roles_asked(kinds, condition);
     let roles = asked.roles;
     let n = asked.count;
     let mut j: usize = 0;
     while j < n {
-        let p = newest_row(state, k, user, roles[j]);
+        let p = rests::newest_row(state, k, user, roles[j]);
         j += 1;
         if p == 0 {
             continue;
         }
-        if row_reaches(rules, kinds, rights, state, seen, p - 1, user, privilege) {
+        if row_reaches(rules, kinds, having, state, seen, p - 1, user) {
             return true;
         }
     }
@@ -272,40 +140,13 @@ pub fn effective(
     if PRIVILEGES <= privilege {
         return inner::refused(3);
     }
-    let p = newest_row(state, table::wide(state[ROW_COUNT]), user, role);
+    let p = rests::newest_row(state, table::wide(state[ROW_COUNT]), user, role);
     if p == 0 {
         return inner::refused(12);
     }
+    let having = direct::roles_having(rights, privilege);
     let mut seen = [0u16; 256];
-    told(row_reaches(
-        rules,
-        kinds,
-        rights,
-        state,
-        &mut seen,
-        p - 1,
-        user,
-        privilege,
-    ))
-}
-
-// The first role that the row rests on, or 256 where it rests on none.
-fn next_role(rules: &[u16], kinds: &[u16], row: Row) -> u16
-    ensures { λ r. ⌜ r ≡ getD (restsOn (policyOf (without-rights (now (rules .entry)) (now (kinds .entry)))) row) 0 roles ⌝ }
-{
-    let own = membership_of(rules, row);
-    let conditions = own.conditions;
-    let m = own.count;
-    let mut i: usize = 0;
-    while i < m {
-        let asked = roles_asked(kinds, conditions[i]);
-        let named = asked.roles;
-        if 0 < asked.count {
-            return named[0];
-        }
-        i += 1;
-    }
-    ROLES
+    told(row_reaches(rules, kinds, &having, state, &mut seen, p - 1, user))
 }
 
 // A row rests on earlier rows, so no role is written twice and the list has room for all.
@@ -337,10 +178,10 @@ pub fn chain(
     let mut q = role;
     let mut n: usize = 0;
     while q < ROLES {
-        k = newest_row(state, k, user, q) - 1;
+        k = rests::newest_row(state, k, user, q) - 1;
         list[n] = q;
         n += 1;
-        q = next_role(rules, kinds, table::row_at(state, k));
+        q = rests::next_role(rules, kinds, table::row_at(state, k));
     }
     fall::zero(list, n, LIST_SIZE);
     Answer {

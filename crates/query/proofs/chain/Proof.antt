@@ -1,7 +1,7 @@
 -- The invariant: the walk is what stands in the list and what is still to be written, and the role at hand has a row among the
 -- first k.
-use Prim.Native.Nat.{ℕ, _+_, _-_, _≤_, _<_}
-use mathlib.Core.Path.{_≡_, refl, sym, ap, _∙_}
+use Prim.Native.Nat.{_+_, _-_, _≤_, _<_}
+use mathlib.Core.Path.{_≡_, refl, sym, _∙_}
 use mathlib.Core.Logic.{_≢_}
 use mathlib.Core.List.{[], _∷_, _++_}
 use native.Mathlib.Omega.{arith}
@@ -13,8 +13,8 @@ use Rattle.model.specs.Chain.{written}
 use Rattle.model.specs.Calls.{isUser, isRole}
 use Rattle.inner.specs.Lent.{lent}
 use Rattle.inner.proofs.Codes.{sound-sized, out-of-range}
-use Rattle.query.specs.Reached.{newest}
-use Rattle.query.proofs.Reaching.{newest-within}
+use Rattle.rests.specs.Newest.{newest}
+use Rattle.rests.proofs.Newest.{newest-within}
 use Rattle.query.proofs.Chaining.{onward, walk-starts, walk-ends}
 use Rattle.query.proofs.Listing.{active-newest, chain-out, chain-inactive, chain-written, turn-stands, turn-written}
 use borrow.Author.Needs.{needs}
@@ -27,21 +27,18 @@ Inv-loop rules kinds rights state user role list₀ k₀ q₀ n₀ list k q n = 
 abbrev μ-loop : tie.MeasureT-loop
 μ-loop rules kinds rights state user role list₀ k₀ q₀ n₀ list k q n = k
 
--- src/lib.rt:325:9
 refused-requires : tie.Need-refused-requires Inv-loop μ-loop
 refused-requires c κs = search needs
 
 returns : tie.Need-returns Inv-loop μ-loop
 returns c = chain-out (c .before .before .before .before .before .before .before .args .rules .now) (c .before .before .before .before .before .before .before .args .kinds .now) (c .before .before .before .before .before .before .before .args .rights .now) (c .before .before .before .before .before .before .before .args .state .now) (c .before .before .before .before .before .before .before .args .list .now) (c .before .before .before .before .before .before .before .pre) (c .before .before .before .before .before .before .before .args .user) (c .before .before .before .before .before .before .before .args .role) (c .refused .result) (c .refused .ensures) (out-of-range (isUser (c .before .before .before .before .before .before .before .args .user) ∷ isRole (c .before .before .before .before .before .before .before .args .role) ∷ eqb (length (c .before .before .before .before .before .before .before .args .list .now)) 256 ∷ []) 0 (le-ltb (c .before .before .before .before .before .before .before .args .user) 4096 (c .before .if1 .taken)))
 
--- src/lib.rt:328:9
 refused-requires-2 : tie.Need-refused-requires-2 Inv-loop μ-loop
 refused-requires-2 c κs = search needs
 
 returns-2 : tie.Need-returns-2 Inv-loop μ-loop
 returns-2 c = chain-out (c .before .before .before .before .before .before .before .before .args .rules .now) (c .before .before .before .before .before .before .before .before .args .kinds .now) (c .before .before .before .before .before .before .before .before .args .rights .now) (c .before .before .before .before .before .before .before .before .args .state .now) (c .before .before .before .before .before .before .before .before .args .list .now) (c .before .before .before .before .before .before .before .before .pre) (c .before .before .before .before .before .before .before .before .args .user) (c .before .before .before .before .before .before .before .before .args .role) (c .refused2 .result) (c .refused2 .ensures) (out-of-range (isUser (c .before .before .before .before .before .before .before .before .args .user) ∷ isRole (c .before .before .before .before .before .before .before .before .args .role) ∷ eqb (length (c .before .before .before .before .before .before .before .before .args .list .now)) 256 ∷ []) 1 (le-ltb (c .before .before .before .before .before .before .before .before .args .role) 256 (c .before .if2 .taken)))
 
--- src/lib.rt:331:9
 refused-requires-3 : tie.Need-refused-requires-3 Inv-loop μ-loop
 refused-requires-3 c κs = search needs
 
@@ -51,14 +48,12 @@ returns-3 c = chain-out (c .before .before .before .before .before .before .befo
 shared-slice-read-wide : tie.Need-shared-slice-read-wide Inv-loop μ-loop
 shared-slice-read-wide c = omega (arith, sound-sized _ (c .before .before .before .before .before .before .before .before .before .args .state .now) (c .before .before .before .before .before .before .before .before .before .pre) .size)
 
--- src/lib.rt:333:9
 wide-requires : tie.Need-wide-requires Inv-loop μ-loop
 wide-requires c κs = search needs
 
 is-active-requires : tie.Need-is-active-requires Inv-loop μ-loop
 is-active-requires c κs = (sound-sized _ (c .before .before .before .before .before .before .before .before .before .before .args .state .now) (c .before .before .before .before .before .before .before .before .before .before .pre) .size, omega (arith, c .wide .ensures, sound-sized _ (c .before .before .before .before .before .before .before .before .before .before .args .state .now) (c .before .before .before .before .before .before .before .before .before .before .pre) .rows))
 
--- src/lib.rt:335:9
 refused-requires-4 : tie.Need-refused-requires-4 Inv-loop μ-loop
 refused-requires-4 c κs = search needs
 
@@ -86,7 +81,6 @@ add-n c = omega (arith, sound-sized _ (c .before .before .before .before .before
 row-at-requires : tie.Need-row-at-requires Inv-loop μ-loop
 row-at-requires c κs = (sound-sized _ (c .before .before .before .before .before .before .before .before .before .before .before .before .before .before .before .args .state .now) (c .before .before .before .before .before .before .before .before .before .before .before .before .before .before .before .pre) .size, omega (arith, sound-sized _ (c .before .before .before .before .before .before .before .before .before .before .before .before .before .before .before .args .state .now) (c .before .before .before .before .before .before .before .before .before .before .before .before .before .before .before .pre) .rows, c .newest-row .ensures, newest-within (c .before .before .before .before .before .before .before .before .before .before .before .before .before .before .before .args .state .now) (c .before .before .before .before .before .before .before .before .before .before .before .before .before .before .before .args .user) (c .before .before .loop .q) (c .before .before .loop .k), c .before .before .loop .inv .2 (c .before .loop-test .taken)))
 
--- src/lib.rt:343:9
 next-role-requires : tie.Need-next-role-requires Inv-loop μ-loop
 next-role-requires c κs = search needs
 

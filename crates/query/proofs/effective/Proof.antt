@@ -3,9 +3,11 @@ use mathlib.Core.List.{[], _∷_}
 use native.Mathlib.Omega.{arith}
 use borrow.Author.Tests.{le-ltb}
 use Rattle.model.specs.Calls.{isUser, isRole, isPrivilege}
-use Rattle.inner.specs.Lent.{lent}
+use Rattle.table.specs.Entries.{without-rights}
 use Rattle.inner.proofs.Codes.{sound-sized, out-of-range}
-use Rattle.query.proofs.Reaching.{newest-within, clean-zeros}
+use Rattle.direct.proofs.Having.{sound-rights}
+use Rattle.rests.proofs.Newest.{newest-within}
+use Rattle.query.proofs.Reaching.{clean-zeros}
 use Rattle.query.proofs.Telling.{effective-out, effective-inactive, effective-told}
 use borrow.Author.Needs.{needs}
 use Rattle.query.proofs.effective.Statement.{statement}
@@ -51,13 +53,16 @@ sub-row-reaches : tie.Need-sub-row-reaches
 sub-row-reaches c = search needs
 
 row-reaches-requires : tie.Need-row-reaches-requires
-row-reaches-requires c κs = (sound-sized _ (c .before .before .before .before .before .before .before .before .before .before .before .before .args .state .now) (c .before .before .before .before .before .before .before .before .before .before .before .before .pre) .size, omega (arith, c .before .before .newest-row .ensures, newest-within (c .before .before .before .before .before .before .before .before .before .before .before .before .args .state .now) (c .before .before .before .before .before .before .before .before .before .before .before .before .args .user) (c .before .before .before .before .before .before .before .before .before .before .before .before .args .role) (c .before .before .before .wide .result), c .before .before .before .wide .ensures, c .before .if4 .left, sound-sized _ (c .before .before .before .before .before .before .before .before .before .before .before .before .args .state .now) (c .before .before .before .before .before .before .before .before .before .before .before .before .pre) .rows), search needs, clean-zeros (lent (c .before .before .before .before .before .before .before .before .before .before .before .before .args .rules .now) (c .before .before .before .before .before .before .before .before .before .before .before .before .args .kinds .now) (c .before .before .before .before .before .before .before .before .before .before .before .before .args .rights .now)) (c .before .before .before .before .before .before .before .before .before .before .before .before .args .state .now) (c .before .before .before .before .before .before .before .before .before .before .before .before .args .user) (c .before .before .before .before .before .before .before .before .before .before .before .before .args .privilege) 256)
+row-reaches-requires c κs = (sound-sized _ (c .before .before .before .before .before .before .before .before .before .before .before .before .before .before .args .state .now) (c .before .before .before .before .before .before .before .before .before .before .before .before .before .before .pre) .size, omega (arith, c .before .before .before .before .newest-row .ensures, newest-within (c .before .before .before .before .before .before .before .before .before .before .before .before .before .before .args .state .now) (c .before .before .before .before .before .before .before .before .before .before .before .before .before .before .args .user) (c .before .before .before .before .before .before .before .before .before .before .before .before .before .before .args .role) (c .before .before .before .before .before .wide .result), c .before .before .before .before .before .wide .ensures, c .before .before .before .if4 .left, sound-sized _ (c .before .before .before .before .before .before .before .before .before .before .before .before .before .before .args .state .now) (c .before .before .before .before .before .before .before .before .before .before .before .before .before .before .pre) .rows), search needs, clean-zeros (without-rights (c .before .before .before .before .before .before .before .before .before .before .before .before .before .before .args .rules .now) (c .before .before .before .before .before .before .before .before .before .before .before .before .before .before .args .kinds .now)) (c .before .before .roles-having .result) (c .before .before .before .before .before .before .before .before .before .before .before .before .before .before .args .state .now) (c .before .before .before .before .before .before .before .before .before .before .before .before .before .before .args .user) 256)
 
 told-requires : tie.Need-told-requires
 told-requires c κs = search needs
 
 returns-5 : tie.Need-returns-5
-returns-5 c = effective-told (c .before .before .before .before .before .before .before .before .before .before .before .before .before .before .before .args .rules .now) (c .before .before .before .before .before .before .before .before .before .before .before .before .before .before .before .args .kinds .now) (c .before .before .before .before .before .before .before .before .before .before .before .before .before .before .before .args .rights .now) (c .before .before .before .before .before .before .before .before .before .before .before .before .before .before .before .args .state .now) (c .before .before .before .before .before .before .before .before .before .before .before .before .before .before .before .pre) (c .before .before .before .before .before .before .before .before .before .before .before .before .before .before .before .args .user) (c .before .before .before .before .before .before .before .before .before .before .before .before .before .before .before .args .role) (c .before .before .before .before .before .before .before .before .before .before .before .before .before .before .before .args .privilege) (c .before .before .before .before .before .before .before .before .before .before .if1 .left) (c .before .before .before .before .before .before .before .before .before .if2 .left) (c .before .before .before .before .before .before .before .before .if3 .left) (c .before .before .before .before .before .before .wide .result) (c .before .before .before .before .before .before .wide .ensures) (c .told .result) (c .before .before .row-reaches .result) (c .before .before .before .before .before .newest-row .result) (c .before .before .before .before .before .newest-row .ensures) (c .before .before .before .before .if4 .left) (c .told .ensures) (c .before .before .row-reaches .ensures .0)
+returns-5 c = effective-told (c .before .before .before .before .before .before .before .before .before .before .before .before .before .before .before .before .before .args .rules .now) (c .before .before .before .before .before .before .before .before .before .before .before .before .before .before .before .before .before .args .kinds .now) (c .before .before .before .before .before .before .before .before .before .before .before .before .before .before .before .before .before .args .rights .now) (c .before .before .before .before .before .before .before .before .before .before .before .before .before .before .before .before .before .args .state .now) (c .before .before .before .before .before .before .before .before .before .before .before .before .before .before .before .before .before .pre) (c .before .before .before .before .before .before .before .before .before .before .before .before .before .before .before .before .before .args .user) (c .before .before .before .before .before .before .before .before .before .before .before .before .before .before .before .before .before .args .role) (c .before .before .before .before .before .before .before .before .before .before .before .before .before .before .before .before .before .args .privilege) (c .before .before .before .before .before .before .before .before .before .before .before .before .if1 .left) (c .before .before .before .before .before .before .before .before .before .before .before .if2 .left) (c .before .before .before .before .before .before .before .before .before .before .if3 .left) (c .before .before .before .before .before .before .before .before .wide .result) (c .before .before .before .before .before .before .before .before .wide .ensures) (c .told .result) (c .before .before .row-reaches .result) (c .before .before .before .before .before .before .before .newest-row .result) (c .before .before .before .before .before .roles-having .result) (c .before .before .before .before .before .roles-having .ensures) (c .before .before .before .before .before .before .before .newest-row .ensures) (c .before .before .before .before .before .before .if4 .left) (c .told .ensures) (c .before .before .row-reaches .ensures .0)
+
+roles-having-requires : tie.Need-roles-having-requires
+roles-having-requires c κs = sound-rights (c .before .before .before .before .before .before .before .before .before .before .before .args .rules .now) (c .before .before .before .before .before .before .before .before .before .before .before .args .kinds .now) (c .before .before .before .before .before .before .before .before .before .before .before .args .rights .now) (c .before .before .before .before .before .before .before .before .before .before .before .args .state .now) (c .before .before .before .before .before .before .before .before .before .before .before .pre)
 
 pub effective-spec : {M : Type 1} → statement M
 effective-spec =
@@ -74,6 +79,7 @@ effective-spec =
     newest-row-requires
     refused-requires-4
     returns-4
+    roles-having-requires
     slice-aggregate-row-reaches
     sub-row-reaches
     row-reaches-requires

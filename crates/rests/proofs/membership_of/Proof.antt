@@ -1,28 +1,24 @@
 use Prim.Native.Nat.{ℕ, min}
-use mathlib.Core.Path.{_≡_, refl, sym, ap, _∙_}
+use mathlib.Core.Path.{ap, _∙_}
 use mathlib.Core.List.{[]}
 use native.Mathlib.Omega.{arith}
 use Rattle.model.specs.Layout.{policyOf}
 use Rattle.model.specs.Conditions.{ruleNumbered}
 use Rattle.table.specs.Entries.{without-rights}
-use Rattle.query.proofs.Reaching.{own-rule}
+use Rattle.rests.proofs.Asking.{own-rule}
 use borrow.Author.Needs.{needs}
-use Rattle.query.proofs.membership_of.Statement.{statement}
-use Rattle.query.proofs.membership_of.Tie as tie
+use Rattle.rests.proofs.membership_of.Statement.{statement}
+use Rattle.rests.proofs.membership_of.Tie as tie
 
--- src/lib.rt:153:44
 wide-requires : tie.Need-wide-requires
 wide-requires c κs = search needs
 
--- src/lib.rt:153:9
 rule-numbered-requires : tie.Need-rule-numbered-requires
 rule-numbered-requires c κs = search needs
 
--- src/lib.rt:155:30
 wide-requires-2 : tie.Need-wide-requires-2
 wide-requires-2 c κs = search needs
 
--- src/lib.rt:155:9
 least-requires : tie.Need-least-requires
 least-requires c κs = search needs
 

@@ -1,13 +1,13 @@
 -- The invariant: the newest row is among the rows that are left.
-use Prim.Native.Nat.{ℕ, _≤_, _-_}
+use Prim.Native.Nat.{_≤_}
 use mathlib.Core.Path.{_≡_, refl, sym, ap, _∙_}
 use native.Mathlib.Omega.{arith}
 use Rattle.model.specs.Conditions.{isRow}
-use Rattle.query.specs.Reached.{newest}
-use Rattle.query.proofs.Reaching.{newest-here, newest-before, newest-none}
+use Rattle.rests.specs.Newest.{newest}
+use Rattle.rests.proofs.Newest.{newest-here, newest-before, newest-none}
 use borrow.Author.Needs.{needs}
-use Rattle.query.proofs.newest_row.Statement.{statement}
-use Rattle.query.proofs.newest_row.Tie as tie
+use Rattle.rests.proofs.newest_row.Statement.{statement}
+use Rattle.rests.proofs.newest_row.Tie as tie
 
 abbrev Inv-loop : tie.InvT-loop
 Inv-loop state k user role i₀ i = (i ≤ k) × (newest state user role i ≡ newest state user role k)

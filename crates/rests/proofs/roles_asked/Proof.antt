@@ -1,14 +1,14 @@
 use Prim.Native.Nat.{ℕ, min}
-use mathlib.Core.Path.{_≡_, refl, sym, ap, _∙_}
+use mathlib.Core.Path.{ap, _∙_}
 use native.Mathlib.Omega.{arith}
-use Rattle.query.proofs.Reaching.{asked-role, asked-kind, asked-none}
+use Rattle.rests.proofs.Asking.{asked-role, asked-kind, asked-none}
 use mathlib.Core.List.{[]}
 use Rattle.model.specs.Layout.{policyOf}
 use Rattle.model.specs.Conditions.{kindNumbered}
 use Rattle.table.specs.Entries.{without-rights}
 use borrow.Author.Needs.{needs}
-use Rattle.query.proofs.roles_asked.Statement.{statement}
-use Rattle.query.proofs.roles_asked.Tie as tie
+use Rattle.rests.proofs.roles_asked.Statement.{statement}
+use Rattle.rests.proofs.roles_asked.Tie as tie
 
 returns : tie.Need-returns
 returns c = (omega arith, asked-role (c .before .before .args .kinds .now) (c .before .before .args .condition) (c .if1 .taken))

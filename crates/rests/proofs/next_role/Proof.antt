@@ -8,10 +8,10 @@ use Rattle.model.specs.Lists.{joined}
 use Rattle.model.specs.Layout.{policyOf}
 use Rattle.model.specs.Conditions.{meant, rolesAsked}
 use Rattle.table.specs.Entries.{without-rights}
-use Rattle.query.proofs.Stepping.{step-more, step-found, step-none}
+use Rattle.rests.proofs.Stepping.{step-more, step-found, step-none}
 use borrow.Author.Needs.{needs}
-use Rattle.query.proofs.next_role.Statement.{statement}
-use Rattle.query.proofs.next_role.Tie as tie
+use Rattle.rests.proofs.next_role.Statement.{statement}
+use Rattle.rests.proofs.next_role.Tie as tie
 
 abbrev Inv-loop : tie.InvT-loop
 Inv-loop rules kinds conditions m i₀ i = (i ≤ m) × (joined (λ (c : ℕ). rolesAsked (policyOf (without-rights [] kinds)) (meant c)) (take i conditions) ≡ [])
@@ -19,36 +19,30 @@ Inv-loop rules kinds conditions m i₀ i = (i ≤ m) × (joined (λ (c : ℕ). r
 abbrev μ-loop : tie.MeasureT-loop
 μ-loop rules kinds conditions m i₀ i = m - i
 
--- src/lib.rt:296:9
 membership-of-requires : tie.Need-membership-of-requires Inv-loop μ-loop
 membership-of-requires c κs = search needs
 
 loop-holds : tie.Need-loop-holds Inv-loop μ-loop
 loop-holds c = (omega arith, refl)
 
--- src/lib.rt:301:40
 mul-roles-asked : tie.Need-mul-roles-asked Inv-loop μ-loop
 mul-roles-asked c = search needs
 
 array-read-roles-asked : tie.Need-array-read-roles-asked Inv-loop μ-loop
 array-read-roles-asked c = let z : length (c .before .before .before .membership-of .result .conditions) ≡ 8 = search needs in omega (arith, z, c .before .before .before .membership-of .ensures .0)
 
--- src/lib.rt:301:13
 roles-asked-requires : tie.Need-roles-asked-requires Inv-loop μ-loop
 roles-asked-requires c κs = search needs
 
--- src/lib.rt:304:20
 array-read-result : tie.Need-array-read-result Inv-loop μ-loop
 array-read-result c = search needs
 
 returns : tie.Need-returns Inv-loop μ-loop
 returns c = let z : length (c .before .before .before .before .before .before .before .membership-of .result .conditions) ≡ 8 = search needs in step-found (c .before .before .before .before .before .before .before .before .before .before .args .rules .now) (c .before .before .before .before .before .before .before .before .before .before .args .kinds .now) (c .before .before .before .before .before .before .before .before .before .before .args .row) (c .before .before .before .before .before .before .before .membership-of .result .conditions) (c .before .before .before .before .before .before .before .membership-of .result .count) (c .before .before .before .before .before .before .before .membership-of .ensures .1) (c .before .before .before .before .before .loop .i) (c .before .before .before .roles-asked .result .count) (c .before .before .before .roles-asked .result .roles) (c .before .before .before .before .loop-test .taken) (omega (arith, z, c .before .before .before .before .before .before .before .membership-of .ensures .0)) (c .before .before .before .before .before .loop .inv .1) (c .before .before .before .roles-asked .ensures .1) (c .if1 .taken) (let y : length (c .before .before .before .roles-asked .result .roles) ≡ 4 = search needs in omega (arith, y))
 
--- src/lib.rt:306:9
 add-i : tie.Need-add-i Inv-loop μ-loop
 add-i c = search needs
 
--- src/lib.rt:300:5
 loop-less : tie.Need-loop-less Inv-loop μ-loop
 loop-less c = search needs
 

@@ -7,12 +7,12 @@ use native.Mathlib.Numerals.{add-one}
 use lib.ListN.{length, getD, take}
 use lib.Seq.{take-suc}
 use Rattle.model.specs.Lists.{joined}
+use Rattle.model.specs.Records.{Tables}
 use Rattle.model.specs.Layout.{policyOf}
 use Rattle.model.specs.Conditions.{meant, membership, ruleNumbered, rolesAsked, restsOn}
 use Rattle.model.specs.declared.Row.{Row}
 use Rattle.table.specs.Entries.{without-rights}
-use Rattle.inner.specs.Lent.{lent}
-use Rattle.query.proofs.Reaching.{roles-same}
+use Rattle.rests.proofs.Asking.{roles-same}
 
 -- ── lists that are joined ──
 
@@ -78,6 +78,6 @@ module _ (rules kinds : List ℕ) (row : Row) (cs : List ℕ) (m : ℕ) (own : t
       sym (ap (λ (w : List ℕ). getD w 0 256) (rests ∙ ap (λ (n : ℕ). joined asks (take n cs)) at ∙ a))
 
 -- what a row rests on reads no rights
-pub rests-same : (rules kinds rights : List ℕ) (row : Row) → restsOn (policyOf (without-rights rules kinds)) row ≡ restsOn (policyOf (lent rules kinds rights)) row
+pub rests-same : (t : Tables) (row : Row) → restsOn (policyOf (without-rights (t .rules) (t .kinds))) row ≡ restsOn (policyOf t) row
 unfolding restsOn policyOf
-rests-same rules kinds rights row = λ j. joined (λ (c : ℕ). roles-same (policyOf (without-rights rules kinds)) (policyOf (lent rules kinds rights)) refl (meant c) j) (membership (ruleNumbered (policyOf (lent rules kinds rights)) (row .rule)))
+rests-same t row = λ j. joined (λ (c : ℕ). roles-same (policyOf (without-rights (t .rules) (t .kinds))) (policyOf t) refl (meant c) j) (membership (ruleNumbered (policyOf t) (row .rule)))

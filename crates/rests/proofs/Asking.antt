@@ -1,0 +1,57 @@
+-- What a condition asks for and which conditions are a row's own: what code reads is the model's.
+use Prim.Native.Nat.{ℕ, _-_, _≤_, _<_, min}
+use mathlib.Core.Path.{_≡_, refl, sym, ap, _∙_}
+use mathlib.Core.Bool.{Bool, true, false, cond}
+use mathlib.Core.List.{List, [], _∷_}
+use native.Mathlib.Omega.{arith}
+use lib.Dec.{ltb}
+use borrow.Author.Tests.{lt-ltb, le-ltb}
+use lib.ListN.{length, getD, take}
+use Rattle.model.specs.Records.{Policy}
+use Rattle.model.specs.Layout.{policyOf}
+use Rattle.model.specs.Conditions.{Condition, role, kind, fact, malformed, meant, membership, ruleNumbered, prerequisiteRoles, kindNumbered, noKind, rolesAsked}
+use Rattle.model.specs.declared.Row.{Row}
+use Rattle.model.specs.declared.Rule.{Rule}
+use Rattle.model.specs.declared.Kind.{Kind}
+use Rattle.table.specs.Entries.{without-rights}
+use Rattle.table.proofs.Worlds.{take-least}
+
+-- ── what a condition asks for ──
+
+module _ (kinds : List ℕ) (c : ℕ) where
+  pub asked-role : c < 256 → c ∷ [] ≡ rolesAsked (policyOf (without-rights [] kinds)) (meant c)
+  unfolding meant rolesAsked
+  asked-role h = sym (rw (lt-ltb c 256 h) refl)
+
+  pub asked-kind : (n : ℕ) (row : Kind) → 256 ≤ c → c < 384 → row ≡ kindNumbered (policyOf (without-rights [] kinds)) (c - 256) → length (row .prerequisites) ≡ 4 → n ≡ min (row .s) 4 → take n (row .prerequisites) ≡ rolesAsked (policyOf (without-rights [] kinds)) (meant c)
+  unfolding meant rolesAsked
+  asked-kind n row h k e size least =
+      ap (λ (m : ℕ). take m (row .prerequisites)) least
+      ∙ take-least (row .s) 4 (row .prerequisites) size
+      ∙ ap prerequisiteRoles e
+      ∙ sym (rw (le-ltb c 256 h, lt-ltb c 384 k) refl)
+
+  pub asked-none : 384 ≤ c → [] ≡ rolesAsked (policyOf (without-rights [] kinds)) (meant c)
+  unfolding meant rolesAsked
+  asked-none h = go (ltb c 448) (sym (rw (le-ltb c 256 (omega arith), le-ltb c 384 h) refl))
+    where
+      fact-or-not : (b : Bool) → [] ≡ rolesAsked (policyOf (without-rights [] kinds)) (cond b (fact (c - 384)) malformed)
+      fact-or-not true = refl
+      fact-or-not false = refl
+
+      go : (b : Bool) → rolesAsked (policyOf (without-rights [] kinds)) (cond b (fact (c - 384)) malformed) ≡ rolesAsked (policyOf (without-rights [] kinds)) (meant c) → [] ≡ rolesAsked (policyOf (without-rights [] kinds)) (meant c)
+      go b e = fact-or-not b ∙ e
+
+-- ── the conditions of a row's own rule ──
+
+pub own-rule : (rules : List ℕ) (row : Row) (rule : Rule) (m : ℕ) → rule ≡ ruleNumbered (policyOf (without-rights rules [])) (row .rule) → length (rule .conditions) ≡ 8 → m ≡ min (rule .m) 8 → take m (rule .conditions) ≡ membership (ruleNumbered (policyOf (without-rights rules [])) (row .rule))
+own-rule rules row rule m e size least = ap (λ (n : ℕ). take n (rule .conditions)) least ∙ take-least (rule .m) 8 (rule .conditions) size ∙ ap membership e
+
+-- ── a condition names kinds and nothing else of the policy ──
+
+pub roles-same : (p₁ p₂ : Policy) → p₁ .kinds ≡ p₂ .kinds → (c : Condition) → rolesAsked p₁ c ≡ rolesAsked p₂ c
+unfolding rolesAsked
+roles-same p₁ p₂ e (role q) = refl
+roles-same p₁ p₂ e (kind k) = ap (λ (ks : List Kind). prerequisiteRoles (getD ks k noKind)) e
+roles-same p₁ p₂ e (fact f) = refl
+roles-same p₁ p₂ e malformed = refl
