@@ -13,7 +13,7 @@ use Rattle.model.specs.Records.{Tables, Policy, State, worldOf}
 use Rattle.model.specs.Layout.{policyOf, decode, encode}
 use Rattle.model.specs.Conditions.{isRow, active, supported, restsOn}
 use Rattle.model.specs.Left.{Largest}
-use Rattle.model.specs.Sound.{formClauses, soundRecords, sound}
+use Rattle.model.specs.Sound.{sound}
 use Rattle.model.specs.Effective.{direct, Carries}
 use Rattle.model.specs.Outcome.{Refusal, Outcome, Keeps}
 use Rattle.model.specs.Calls.{Call, activate, invoke, effective, courseOf, answer}
@@ -24,8 +24,8 @@ use Rattle.model.specs.Tally.{Made, tally}
 use Rattle.model.specs.declared.Row.{Row}
 use Rattle.model.proofs.Parts.{part-member}
 use Rattle.model.proofs.Numbers.{decode-encode, encode-decode, sound-formed, sound-decode}
-use Rattle.model.proofs.Refusals.{first-applies, only-first, answer-code, refused-unchanged}
-use Rattle.model.proofs.Accepted.{accepted-sound, accepted-largest}
+use Rattle.model.proofs.Refusals.{first-applies, only-first, answer-code, refused-unchanged, kept-once}
+use Rattle.model.proofs.Accepted.{zeros-sound, accepted-sound, accepted-largest}
 use Rattle.model.proofs.Carried.{carried-allowed, carries-least}
 use Rattle.model.proofs.Grants.{rule-gives-grant, granted, invoke-accepted, invoked-one, carried-invoked, effective-one}
 use Rattle.model.proofs.Orders.{run-leaves, run-rows, order-free, fewer-keep}
@@ -49,8 +49,7 @@ no-other-is-first rs m n a b = only-first a ∙ sym (only-first b)
 
 -- all zeros is sound, under every policy
 pub zeros-are-sound : (p : Policy) → T (sound p (replicate stateSize 0))
-unfolding sound soundRecords decode formClauses
-zeros-are-sound p = tt
+zeros-are-sound = zeros-sound
 
 -- every accepted call leaves a sound state
 pub accepted-leaves-sound : (t : Tables) (s list : List ℕ) (c : Call) → answer t s list c .code ≡ accepted → T (sound (policyOf t) (answer t s list c .state))
@@ -130,7 +129,7 @@ module _ (t : Tables) (s : List ℕ) (h : Sound t s) where
 -- the promise of a public call allows one outcome
 pub one-outcome : (o : Outcome) (code₁ second₁ code₂ second₂ : ℕ) (state₁ list₁ state₂ list₂ : List ℕ) → Keeps o code₁ second₁ state₁ list₁ → Keeps o code₂ second₂ state₂ list₂
     → (code₁ ≡ code₂) × (second₁ ≡ second₂) × (state₁ ≡ state₂) × (list₁ ≡ list₂)
-one-outcome o c₁ n₁ c₂ n₂ s₁ l₁ s₂ l₂ a b = (a .code-kept ∙ sym (b .code-kept), a .second-kept ∙ sym (b .second-kept), a .state-kept ∙ sym (b .state-kept), a .list-kept ∙ sym (b .list-kept))
+one-outcome = kept-once
 
 -- from fresh, under one policy, over any calls: activations accepted are roles reported lost and the active count together
 pub grants-less-losses : (t : Tables) (calls : List Made) → tally t calls .granted ≡ tally t calls .lost + activeRows (tally t calls .state)

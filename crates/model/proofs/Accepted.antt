@@ -5,14 +5,14 @@ use mathlib.Core.Bool.{Bool, true, false, not, _&&_}
 use mathlib.Core.List.{List, [], _∷_, _++_, List·Memᴰ, Sublistᴰ, Sublistᴰ·refl}
 use native.Mathlib.Omega.{arith}
 use lib.Dec.{T, eqb, ltb, leb, eqb→eq, ltb→lt, nleb→lt}
-use lib.ListN.{length, getD}
+use lib.ListN.{length, getD, replicate}
 use Rattle.model.specs.Lists.{any, every, all, allOverEarlier, without, firstPlace, isBit}
-use Rattle.model.specs.Limits.{users, roles, facts, mostRows, mostCertificates}
+use Rattle.model.specs.Limits.{users, roles, facts, mostRows, mostCertificates, stateSize}
 use Rattle.model.specs.Records.{Tables, Policy, State, World, worldOf, withRows, withCertificates, withFact}
 use Rattle.model.specs.Layout.{policyOf, decode, encode}
 use Rattle.model.specs.Conditions.{satisfied, supported, active, kindNumbered, ruleNumbered}
 use Rattle.model.specs.Left.{left, Supported, Largest}
-use Rattle.model.specs.Sound.{soundPolicy, sound, soundRecords, rowSound, sameCertificate, certificateClauses, certificateSound}
+use Rattle.model.specs.Sound.{soundPolicy, sound, soundRecords, rowSound, sameCertificate, certificateClauses, certificateSound, formClauses}
 use Rattle.model.specs.Outcome.{judgedFirst, given}
 use Rattle.model.specs.Calls.{Call, fresh, activate, appoint, revoke, withdraw, environment, logout, invoke, effective, chain, isUser, isRole, isPrivilege, hasRow, stands, ofUser, nothing, settled, withoutCertificate, someRuleSatisfied, lowestRule, activateOn, appointOn, revokeOn, withdrawOn, environmentOn, logoutOn, invokeOn, effectiveOn, chainOn, freshOn, courseOf, answer}
 use Rattle.model.specs.declared.Row.{Row}
@@ -48,6 +48,10 @@ by-user u = record { alike = λ a b e t. subst (λ (n : ℕ). T (eqb n u)) e t }
 pub nothing-sound : (p : Policy) → SoundState p nothing
 unfolding soundRecords
 nothing-sound p = record { fits = record { all-facts = refl; bits = tt; room-for-rows = omega arith; room-for-certificates = omega arith }; records = tt }
+
+pub zeros-sound : (p : Policy) → T (sound p (replicate stateSize 0))
+unfolding sound soundRecords decode formClauses
+zeros-sound p = tt
 
 pub certificate-gone-fits : (t : State) (c : Certificate) → Fits t → Fits (withoutCertificate t c)
 certificate-gone-fits t c f =

@@ -10,7 +10,7 @@ use Rattle.model.specs.Lists.{all, isZero}
 use Rattle.model.specs.Records.{Tables}
 use Rattle.model.specs.Layout.{policyOf, encode}
 use Rattle.model.specs.Sound.{soundPolicy, sound}
-use Rattle.model.specs.Outcome.{Outcome, Refusal, firstCode, Effect, Course, judgedFirst, decided, given}
+use Rattle.model.specs.Outcome.{Outcome, Refusal, firstCode, Effect, Course, judgedFirst, decided, given, Keeps}
 use Rattle.model.specs.Calls.{Call, fresh, activate, appoint, revoke, withdraw, environment, logout, invoke, effective, chain, activateOn, appointOn, revokeOn, withdrawOn, environmentOn, logoutOn, invokeOn, effectiveOn, chainOn, freshOn, courseOf, answer}
 use Rattle.model.specs.Words.{FirstApplies, none, here, later, Unchanged}
 use Rattle.model.proofs.Tests.{and-left, and-right, of-true, of-false, is-false, refute}
@@ -117,3 +117,10 @@ accepted-passed t s list c h = passed (courseOf t s list c .refusals) (all-coded
 
 pub passed-accepted : (t : Tables) (s list : List ℕ) (c : Call) → Passed (courseOf t s list c .refusals) → answer t s list c .code ≡ 0
 passed-accepted t s list c p = answer-code t s list c ∙ none-applies (courseOf t s list c .refusals) p
+
+-- ── the promise of a call ──
+
+-- it leaves nothing open
+pub kept-once : (o : Outcome) (code₁ second₁ code₂ second₂ : ℕ) (state₁ list₁ state₂ list₂ : List ℕ) → Keeps o code₁ second₁ state₁ list₁ → Keeps o code₂ second₂ state₂ list₂
+    → (code₁ ≡ code₂) × (second₁ ≡ second₂) × (state₁ ≡ state₂) × (list₁ ≡ list₂)
+kept-once o c₁ n₁ c₂ n₂ s₁ l₁ s₂ l₂ a b = (a .code-kept ∙ sym (b .code-kept), a .second-kept ∙ sym (b .second-kept), a .state-kept ∙ sym (b .state-kept), a .list-kept ∙ sym (b .list-kept))
