@@ -19,7 +19,7 @@ use Rattle.model.specs.declared.Row.{Row}
 use Rattle.model.proofs.Tests.{lt-or-ge, each, all-of, any-append}
 use Rattle.table.specs.Entries.{entry, entries, rightAt}
 use Rattle.table.proofs.Entries.{entries-more, entry-member}
-use Rattle.sound.specs.Lent.{lent}
+use Rattle.policy.specs.Lent.{lent}
 use Rattle.direct.specs.Having.{RightsFit, hasRight, Having}
 
 -- the right is one of the role to the privilege

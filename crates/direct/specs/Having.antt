@@ -10,7 +10,7 @@ use Rattle.model.specs.Limits.{roles}
 use Rattle.model.specs.Layout.{policyOf}
 use Rattle.model.specs.Sound.{rightFits}
 use Rattle.model.specs.Effective.{direct}
-use Rattle.sound.specs.Lent.{lent}
+use Rattle.policy.specs.Lent.{lent}
 
 -- each right names a role and a privilege that there are
 abbrev pub RightsFit : List ℕ → Type 0

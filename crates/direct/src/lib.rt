@@ -6,7 +6,7 @@ ghost use lib.Dec.{eqb};
 ghost use Rattle.model.specs.Layout.{decode, policyOf};
 ghost use Rattle.model.specs.Calls.{allowed};
 ghost use Rattle.table.specs.Entries.{Sized};
-ghost use Rattle.sound.specs.Lent.{lent};
+ghost use Rattle.policy.specs.Lent.{lent};
 ghost use Rattle.direct.specs.Having.{RightsFit, hasRight, Having};
 use model::Row;
 

@@ -12,7 +12,7 @@ use Rattle.model.specs.Calls.{allowed}
 use Rattle.model.specs.declared.Row.{Row}
 use Rattle.table.specs.Entries.{entries, rowAt}
 use Rattle.table.proofs.Entries.{any-next, any-hit}
-use Rattle.sound.specs.Lent.{lent}
+use Rattle.policy.specs.Lent.{lent}
 use Rattle.direct.proofs.Having.{row-having}
 use borrow.Author.Needs.{needs}
 use Rattle.direct.proofs.may_invoke.Statement.{statement}
