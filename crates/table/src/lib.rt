@@ -1,30 +1,21 @@
-// Reading the lent tables, and whether a condition holds. Every index is bounded before it is used: lent tables hold any numbers.
+// Reading the lent tables. Every index is bounded before it is used: lent tables hold any numbers.
 ghost use mathlib.Core.List.{[]};
 ghost use mathlib.Core.Path.{_≡_};
-ghost use Prim.Native.Nat.{_+_, _*_, _/_, _<_, _≤_, min};
-ghost use mathlib.Core.Bool.{_&&_};
-ghost use lib.Dec.{eqb};
-ghost use lib.ListN.{length, getD, take};
-ghost use Rattle.model.specs.Lists.{all};
-ghost use Rattle.model.specs.Limits.{stateSize, mostRows, mostCertificates, facts};
-ghost use Rattle.model.specs.Layout.{decode, policyOf};
-ghost use Rattle.model.specs.Conditions.{isRow, active, someStands, prerequisiteRoles, kindNumbered, ruleNumbered, holds, meant, allHold, supported, satisfied, kind as kindCondition, fact as factCondition};
-ghost use Rattle.table.specs.Entries.{ruleAt, kindAt, rightAt, rowAt, firstRows, certificateAt, without-rights, worldAt, Sized};
+ghost use Prim.Native.Nat.{_/_, _<_, _≤_, min};
+ghost use lib.ListN.{length};
+ghost use Rattle.model.specs.Limits.{stateSize, mostRows, mostCertificates};
+ghost use Rattle.model.specs.Layout.{policyOf};
+ghost use Rattle.model.specs.Conditions.{isRow, active, kindNumbered, ruleNumbered};
+ghost use Rattle.table.specs.Entries.{ruleAt, kindAt, rightAt, rowAt, firstRows, certificateAt, without-rights};
 use model::Certificate;
 use model::Kind;
 use model::Right;
 use model::Row;
 use model::Rule;
 
-const FACTS: usize = 64;
-
-const ROW_COUNT: usize = 64;
-
 const ROWS: usize = 65;
 
 const ROW_WIDTH: usize = 3;
-
-const CERTIFICATE_COUNT: usize = 833;
 
 const CERTIFICATES: usize = 834;
 
@@ -179,143 +170,4 @@ pub fn is_active(state: &[u16], k: usize, user: u16, role: u16) -> bool
         j += 1;
     }
     false
-}
-
-// The certificate is of the kind, and the user's.
-fn certificate_is(certificate: Certificate, user: u16, kind: u16) -> bool
-    ensures { λ r. ⌜ r ≡ (eqb (certificate .appointee) user && eqb (certificate .kind) kind) ⌝ }
-{
-    if certificate.appointee == user {
-        return certificate.kind == kind;
-    }
-    false
-}
-
-// Some certificate of the kind stands for the user.
-pub fn some_stand(state: &[u16], user: u16, kind: u16) -> bool
-    requires { ⌜ Sized (now state) ⌝ }
-    ensures { λ r. ⌜ r ≡ someStands (decode (now (state .entry)) .certificates) user kind ⌝ }
-{
-    let n = wide(state[CERTIFICATE_COUNT]);
-    let mut j: usize = 0;
-    while j < n {
-        if certificate_is(certificate_at(state, j), user, kind) {
-            return true;
-        }
-        j += 1;
-    }
-    false
-}
-
-// The user is active, in the first k rows, in the first n of the roles.
-fn all_active(state: &[u16], k: usize, user: u16, roles: [u16; 4], n: usize) -> bool
-    requires { ⌜ (length (now state) ≡ stateSize) × (k ≤ mostRows) × (n ≤ 4) ⌝ }
-    ensures { λ r. ⌜ r ≡ all (active (firstRows (now (state .entry)) k) user) (take n roles) ⌝ }
-{
-    let mut j: usize = 0;
-    while j < n {
-        if !is_active(state, k, user, roles[j]) {
-            return false;
-        }
-        j += 1;
-    }
-    true
-}
-
-// A certificate of the kind stands for the user, who is active in the kind's prerequisite roles.
-fn kind_holds(kinds: &[u16], state: &[u16], k: usize, user: u16, kind: u16) -> bool
-    requires { ⌜ Sized (now state) × (k ≤ mostRows) ⌝ }
-    ensures { λ r. ⌜ r ≡ holds (worldAt [] (now (kinds .entry)) (now (state .entry))) (firstRows (now (state .entry)) k) user (kindCondition kind) ⌝ }
-{
-    if !some_stand(state, user, kind) {
-        return false;
-    }
-    let row = kind_numbered(kinds, wide(kind));
-    let roles = row.prerequisites;
-    let n = least(wide(row.s), 4);
-    all_active(state, k, user, roles, n)
-}
-
-// The fact is 1.
-fn fact_holds(kinds: &[u16], state: &[u16], k: usize, user: u16, fact: u16) -> bool
-    requires { ⌜ Sized (now state) ⌝ }
-    ensures { λ r. ⌜ r ≡ holds (worldAt [] (now (kinds .entry)) (now (state .entry))) (firstRows (now (state .entry)) k) user (factCondition fact) ⌝ }
-{
-    let at = wide(fact);
-    if at < FACTS {
-        return state[at] == 1;
-    }
-    false
-}
-
-// The condition holds for the user, over the first k rows.
-pub fn condition_holds(kinds: &[u16], state: &[u16], k: usize, user: u16, c: u16) -> bool
-    requires { ⌜ Sized (now state) × (k ≤ mostRows) ⌝ }
-    ensures { λ r. ⌜ r ≡ holds (worldAt [] (now (kinds .entry)) (now (state .entry))) (firstRows (now (state .entry)) k) user (meant c) ⌝ }
-{
-    if c < 256 {
-        return is_active(state, k, user, c);
-    }
-    if c < 384 {
-        return kind_holds(kinds, state, k, user, c - 256);
-    }
-    if c < 448 {
-        return fact_holds(kinds, state, k, user, c - 384);
-    }
-    false
-}
-
-// The first n of the conditions hold for the user, over the first k rows.
-pub fn all_conditions_hold(
-    kinds: &[u16],
-    state: &[u16],
-    k: usize,
-    user: u16,
-    conditions: [u16; 8],
-    n: usize,
-) -> bool
-    requires { ⌜ Sized (now state) × (k ≤ mostRows) × (n ≤ 8) ⌝ }
-    ensures { λ r. ⌜ r ≡ allHold (worldAt [] (now (kinds .entry)) (now (state .entry))) (firstRows (now (state .entry)) k) user (take n conditions) ⌝ }
-{
-    let mut j: usize = 0;
-    while j < n {
-        if !condition_holds(kinds, state, k, user, conditions[j]) {
-            return false;
-        }
-        j += 1;
-    }
-    true
-}
-
-// The membership conditions of the row's own rule hold, over the first k rows.
-pub fn row_supported(rules: &[u16], kinds: &[u16], state: &[u16], k: usize, row: Row) -> bool
-    requires { ⌜ Sized (now state) × (k ≤ mostRows) ⌝ }
-    ensures { λ r. ⌜ r ≡ supported (worldAt (now (rules .entry)) (now (kinds .entry)) (now (state .entry))) (firstRows (now (state .entry)) k) row ⌝ }
-{
-    let rule = rule_numbered(rules, wide(row.rule));
-    let conditions = rule.conditions;
-    let n = least(wide(rule.m), 8);
-    all_conditions_hold(kinds, state, k, row.user, conditions, n)
-}
-
-// Rule i is one for the role, and its conditions all hold for the user.
-pub fn rule_satisfied(
-    rules: &[u16],
-    kinds: &[u16],
-    state: &[u16],
-    user: u16,
-    role: u16,
-    i: usize,
-) -> bool
-    requires { ⌜ Sized (now state) × (i < length (now rules) / 11) ⌝ }
-    ensures { λ r. ⌜ r ≡ satisfied (worldAt (now (rules .entry)) (now (kinds .entry)) (now (state .entry))) (decode (now (state .entry)) .rows) user role (ruleAt (now (rules .entry)) i) ⌝ }
-{
-    let rule = rule_at(rules, i);
-    if rule.target != role {
-        return false;
-    }
-    let conditions = rule.conditions;
-    let n = least(wide(rule.n), 8);
-    let k = wide(state[ROW_COUNT]);
-    all_conditions_hold(kinds, state, k, user, conditions, n)
 }
