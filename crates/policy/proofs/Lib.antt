@@ -1,3 +1,4 @@
 pub mod Clauses
 pub mod Parts
+pub mod Joined
 pub mod Rights

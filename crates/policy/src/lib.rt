@@ -11,7 +11,6 @@ ghost use Rattle.model.specs.Conditions.{meant};
 ghost use Rattle.model.specs.Sound.{conditionFits, ruleFits, kindFits, rightFits, soundPolicy};
 ghost use Rattle.table.specs.Entries.{ruleAt, kindAt, without-rights};
 ghost use Rattle.policy.specs.Lent.{lent, kindsOnly};
-use model::Right;
 
 const ROLES: u16 = 256;
 
@@ -25,19 +24,19 @@ const KIND_WIDTH: usize = 7;
 
 const RIGHT_WIDTH: usize = 2;
 
-// The numbers from a place on, as many as are asked for, are zero.
+// The numbers from a place on, as many as are asked for, are zero. They are joined and looked at once, so that the loop has no way out
+// but its end and the machine may take several numbers in one step.
 pub fn all_zero(numbers: &[u16], from: usize, count: usize) -> bool
     requires { ⌜ from + count ≤ length (now numbers) ⌝ }
     ensures { λ r. ⌜ r ≡ all isZero (take count (drop from (now (numbers .entry)))) ⌝ }
 {
+    let mut joined: u16 = 0;
     let mut j: usize = 0;
     while j < count {
-        if numbers[from + j] != 0 {
-            return false;
-        }
+        joined = joined | numbers[from + j];
         j += 1;
     }
-    true
+    joined == 0
 }
 
 // "256 to 383 certificate kind .., which must be a row of the kinds table; .. 448 and above malformed."
@@ -167,30 +166,19 @@ fn kinds_fit(kinds: &[u16]) -> bool
     true
 }
 
-fn right_fits(right: Right) -> bool
-    ensures { λ r. ⌜ r ≡ rightFits right ⌝ }
-{
-    if right.role >= ROLES {
-        return false;
-    }
-    if right.privilege >= PRIVILEGES {
-        return false;
-    }
-    true
-}
-
+// "role, privilege", each in its range. A number that is not leaves something over, and what is left over is joined.
 fn rights_fit(rights: &[u16]) -> bool
     ensures { λ r. ⌜ r ≡ all rightFits (policyOf (lent [] [] (now (rights .entry))) .rights) ⌝ }
 {
     let n = rights.len() / RIGHT_WIDTH;
+    let mut over: u16 = 0;
     let mut i: usize = 0;
     while i < n {
-        if !right_fits(table::right_at(rights, i)) {
-            return false;
-        }
+        let right = table::right_at(rights, i);
+        over = over | right.role / ROLES | right.privilege / PRIVILEGES;
         i += 1;
     }
-    true
+    over == 0
 }
 
 // "A length that isn't a whole number of rows, too many rows, or a row not as above makes the policy malformed; any other is sound."

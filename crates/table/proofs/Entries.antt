@@ -60,7 +60,7 @@ module _ {A : Type 0} (from : List ℕ → A) (width : ℕ) where
 -- ── a loop that looks for an element that fails, over a list by its places ──
 
 module _ {A : Type 0} (test : A → Bool) where
-  all-append : (xs ys : List A) → all test (xs ++ ys) ≡ (all test xs && all test ys)
+  pub all-append : (xs ys : List A) → all test (xs ++ ys) ≡ (all test xs && all test ys)
   all-append [] ys = refl
   all-append (x ∷ xs) ys = go (test x) (all-append xs ys)
     where

@@ -1,58 +1,51 @@
--- The invariant: the numbers passed are zero.
+-- The invariant: the numbers passed are joined, and what is joined is zero exactly if each of them is.
 use Prim.Native.Nat.{ℕ, _≤_, _-_}
-use mathlib.Core.Path.{_≡_, refl, sym, ap, _∙_}
-use mathlib.Core.Bool.{true}
+use mathlib.Core.Path.{_≡_, refl, ap, _∙_}
 use native.Mathlib.Omega.{arith}
-use lib.ListN.{take, drop, length-drop}
-use lib.Seq.{getD-drop}
-use borrow.Author.Tests.{eq-eqb, ne-eqb}
+use lib.Dec.{eqb}
+use lib.ListN.{take, drop}
 use Rattle.model.specs.Lists.{all, isZero}
-use Rattle.table.proofs.Entries.{all-next, all-miss}
+use Rattle.policy.proofs.Joined.{zero-more}
 use borrow.Author.Needs.{needs}
 use Rattle.policy.proofs.all_zero.Statement.{statement}
 use Rattle.policy.proofs.all_zero.Tie as tie
 
 abbrev Inv-loop : tie.InvT-loop
-Inv-loop numbers from count j₀ j = (j ≤ count) × (all isZero (take j (drop from numbers)) ≡ true)
+Inv-loop numbers from count joined₀ j₀ joined j = (j ≤ count) × (eqb joined 0 ≡ all isZero (take j (drop from numbers)))
 
 abbrev μ-loop : tie.MeasureT-loop
-μ-loop numbers from count j₀ j = count - j
+μ-loop numbers from count joined₀ j₀ joined j = count - j
 
 loop-holds : tie.Need-loop-holds Inv-loop μ-loop
 loop-holds c = (search needs, refl)
 
-add-if1 : tie.Need-add-if1 Inv-loop μ-loop
-add-if1 c = search needs
+-- src/lib.rt:36:35
+add-joined : tie.Need-add-joined Inv-loop μ-loop
+add-joined c = search needs
 
-mul-if1 : tie.Need-mul-if1 Inv-loop μ-loop
-mul-if1 c = search needs
+-- src/lib.rt:36:27
+mul-joined : tie.Need-mul-joined Inv-loop μ-loop
+mul-joined c = search needs
 
-shared-slice-read-if1 : tie.Need-shared-slice-read-if1 Inv-loop μ-loop
-shared-slice-read-if1 c = search needs
+-- src/lib.rt:36:27
+shared-slice-read-joined : tie.Need-shared-slice-read-joined Inv-loop μ-loop
+shared-slice-read-joined c = search needs
 
-returns : tie.Need-returns Inv-loop μ-loop
-returns c =
-    sym
-    (all-miss isZero (drop (c .before .before .before .before .args .from) (c .before .before .before .before .args .numbers .now)) 0 (c .before .before .before .before .args .count) (c .before .before .before .loop .j) (c .before .before .loop-test .taken) (simp length-drop (omega arith))
-    (ap isZero (getD-drop (c .before .before .before .before .args .from) (c .before .before .before .before .args .numbers .now) (c .before .before .before .loop .j) 0) ∙ ne-eqb _ _ (c .if1 .taken)))
-
+-- src/lib.rt:37:9
 add-j : tie.Need-add-j Inv-loop μ-loop
 add-j c = search needs
 
+-- src/lib.rt:35:5
 loop-less : tie.Need-loop-less Inv-loop μ-loop
 loop-less c = search needs
 
 loop-again : tie.Need-loop-again Inv-loop μ-loop
-loop-again c = (
-  search needs,
-  all-next isZero (drop (c .before .before .before .before .args .from) (c .before .before .before .before .args .numbers .now)) 0 (c .before .before .before .loop .j) (simp length-drop (omega arith)) (c .before .before .before .loop .inv .1)
-      (ap isZero (getD-drop (c .before .before .before .before .args .from) (c .before .before .before .before .args .numbers .now) (c .before .before .before .loop .j) 0) ∙ eq-eqb _ _ (c .if1 .left)),
-)
+loop-again c = (search needs, zero-more (c .before .before .before .args .numbers .now) (c .before .before .before .args .from) (c .before .before .loop .j) (c .before .before .loop .joined) (omega arith) (c .before .before .loop .inv .1))
 
-returns-2 : tie.Need-returns-2 Inv-loop μ-loop
-returns-2 c =
+returns : tie.Need-returns Inv-loop μ-loop
+returns c =
     let e : c .before .loop .j ≡ c .before .before .args .count = omega arith in
-    sym (c .before .loop .inv .1) ∙ ap (λ (m : ℕ). all isZero (take m (drop (c .before .before .args .from) (c .before .before .args .numbers .now)))) e
+    c .before .loop .inv .1 ∙ ap (λ (m : ℕ). all isZero (take m (drop (c .before .before .args .from) (c .before .before .args .numbers .now)))) e
 
 pub all-zero-spec : {M : Type 1} → statement M
 all-zero-spec =
@@ -61,11 +54,10 @@ all-zero-spec =
     Inv-loop
     μ-loop
     loop-holds
-    add-if1
-    mul-if1
-    shared-slice-read-if1
-    returns
+    add-joined
+    mul-joined
+    shared-slice-read-joined
     add-j
     loop-less
     loop-again
-    returns-2)
+    returns)

@@ -1,71 +1,49 @@
--- The invariant: the rights passed fit.
+-- The invariant: what the rights passed leave over is joined, and it is zero exactly if each of them fits.
 use Prim.Native.Nat.{ℕ, _≤_, _-_, _/_}
-use mathlib.Core.Path.{_≡_, refl, sym, ap, _∙_}
-use mathlib.Core.Bool.{true}
+use mathlib.Core.Path.{_≡_, refl, ap, _∙_}
 use native.Mathlib.Omega.{arith}
+use lib.Dec.{eqb}
 use lib.ListN.{length}
-use borrow.Author.Tests.{not-true, not-false}
 use Rattle.model.specs.Lists.{all}
 use Rattle.model.specs.Layout.{rightFrom, policyOf}
 use Rattle.model.specs.Sound.{rightFits}
-use Rattle.table.specs.Entries.{entries, rightAt}
-use Rattle.table.proofs.Entries.{entries-all-next, entries-all-miss}
+use Rattle.table.specs.Entries.{entries}
+use Rattle.policy.proofs.Joined.{right-more}
 use borrow.Author.Needs.{needs}
 use Rattle.policy.proofs.rights_fit.Statement.{statement}
 use Rattle.policy.proofs.rights_fit.Tie as tie
 
 abbrev Inv-loop : tie.InvT-loop
-Inv-loop rights n i₀ i = (i ≤ length rights / 2) × (all rightFits (entries rightFrom 2 rights i) ≡ true)
+Inv-loop rights n over₀ i₀ over i = (i ≤ length rights / 2) × (eqb over 0 ≡ all rightFits (entries rightFrom 2 rights i))
 
 abbrev μ-loop : tie.MeasureT-loop
-μ-loop rights n i₀ i = length rights / 2 - i
+μ-loop rights n over₀ i₀ over i = length rights / 2 - i
 
 loop-holds : tie.Need-loop-holds Inv-loop μ-loop
 loop-holds c = (search needs, refl)
 
+-- src/lib.rt:177:13
 right-at-requires : tie.Need-right-at-requires Inv-loop μ-loop
 right-at-requires c κs = search needs
 
-right-fits-requires : tie.Need-right-fits-requires Inv-loop μ-loop
-right-fits-requires c κs = search needs
-
-returns : tie.Need-returns Inv-loop μ-loop
-unfolding policyOf rightAt
-returns c =
-    sym
-    (entries-all-miss rightFrom 2 rightFits (c .before .before .before .before .before .before .args .rights .now) (length (c .before .before .before .before .before .before .args .rights .now) / 2) (c .before .before .before .before .loop .i) (c .before .before .before .loop-test .taken)
-    (ap rightFits (sym (c .before .before .right-at .ensures)) ∙ sym (c .before .right-fits .ensures) ∙ not-true _ (c .if1 .taken)))
-
+-- src/lib.rt:179:9
 add-i : tie.Need-add-i Inv-loop μ-loop
 add-i c = search needs
 
+-- src/lib.rt:176:5
 loop-less : tie.Need-loop-less Inv-loop μ-loop
 loop-less c = search needs
 
 loop-again : tie.Need-loop-again Inv-loop μ-loop
-unfolding rightAt
-loop-again c = (
-  search needs,
-  entries-all-next rightFrom 2 rightFits (c .before .before .before .before .before .before .args .rights .now) (c .before .before .before .before .loop .i) (c .before .before .before .before .loop .inv .1) (ap rightFits (sym (c .before .before .right-at .ensures)) ∙ sym (c .before .right-fits .ensures) ∙ not-false _ (c .if1 .left)),
-)
+loop-again c = (search needs, right-more (c .before .before .before .before .before .before .args .rights .now) (c .before .before .before .before .loop .i) (c .before .before .before .before .loop .over) (c .before .before .right-at .result) (c .before .before .right-at .ensures) (c .before .before .before .before .loop .inv .1))
 
-returns-2 : tie.Need-returns-2 Inv-loop μ-loop
+returns : tie.Need-returns Inv-loop μ-loop
 unfolding policyOf
-returns-2 c =
+returns c =
     let e : c .before .loop .i ≡ length (c .before .before .before .args .rights .now) / 2 = omega arith in
-    sym (c .before .loop .inv .1) ∙ ap (λ (m : ℕ). all rightFits (entries rightFrom 2 (c .before .before .before .args .rights .now) m)) e
+    c .before .loop .inv .1 ∙ ap (λ (m : ℕ). all rightFits (entries rightFrom 2 (c .before .before .before .args .rights .now) m)) e
 
 pub rights-fit-spec : {M : Type 1} → statement M
 rights-fit-spec =
     tie.close
-    (tie.spec
-    Inv-loop
-    μ-loop
-    loop-holds
-    right-at-requires
-    right-fits-requires
-    returns
-    add-i
-    loop-less
-    loop-again
-    returns-2)
+    (tie.spec Inv-loop μ-loop loop-holds right-at-requires add-i loop-less loop-again returns)
