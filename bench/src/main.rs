@@ -11,6 +11,7 @@ mod plain;
 mod programs;
 mod scene;
 mod table;
+mod worst;
 
 use table::{Head, Line};
 
@@ -19,6 +20,7 @@ const PASSES: usize = 8;
 
 const CALLS: Head = Head { title: "Public calls", unit: "µs", others: &["plain", "indexed"] };
 const EVENTS: Head = Head { title: "The program's events", unit: "µs", others: &["second"] };
+const TEXTS: Head = Head { title: "Whole texts through the program", unit: "ms", others: &["second"] };
 
 type Tables = Vec<(Head, Vec<Line>)>;
 
@@ -42,6 +44,7 @@ fn measured(programs: &[String]) -> Result<Tables, String> {
     let mut tables = vec![(CALLS, cases.iter().map(case::Measured::line).collect())];
     if let Some(programs) = programs {
         tables.push((EVENTS, sessions.iter().map(programs::Session::line).collect()));
+        tables.push((TEXTS, worst::lines(programs)?));
     }
     Ok(tables)
 }
