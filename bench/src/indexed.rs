@@ -130,7 +130,7 @@ pub fn invoke(policy: Policy, state: &[u16], user: u16, privilege: u16) -> Outco
     let mut index = Index::new();
     let (tables, _) = judge(policy, state, &mut index)?;
     ask(user < USERS && privilege < PRIVILEGES, 3)?;
-    let allowed = index.line(user).is_some_and(|&[a, b, c, d, ..]| some_has_right(tables.rights, &[a, b, c, d], privilege));
+    let allowed = index.line(user).is_some_and(|line| some_has_right(tables.rights, privilege, |role| bit(line, role) == 1));
     Ok(allowed as u16)
 }
 
@@ -149,16 +149,15 @@ pub fn effective(policy: Policy, state: &[u16], user: u16, role: u16, privilege:
     let (tables, view) = judge(policy, state, &mut index)?;
     ask(user < USERS && role < ROLES && privilege < PRIVILEGES, 3)?;
     ask(index.is_active(user, role), 12)?;
-    let mut asked = [0u64; 4];
-    let add = |asked: &mut [u64; 4], role: u16| asked[(role >> 6 & 3) as usize] |= 1 << (role & 63);
-    add(&mut asked, role);
+    let mut asked = [false; ROLES as usize];
+    asked[role as usize] = true;
     for &[of, role, rule] in view.rows.iter().rev() {
-        if of == user && asked[(role >> 6 & 3) as usize] >> (role & 63) & 1 == 1 {
+        if of == user && asked[role as usize] {
             let conditions = membership(&tables.rules[rule as usize]).iter();
-            conditions.flat_map(|condition| roles_asked(tables.kinds, condition)).for_each(|&role| add(&mut asked, role));
+            conditions.flat_map(|condition| roles_asked(tables.kinds, condition)).for_each(|&role| asked[role as usize] = true);
         }
     }
-    Ok(some_has_right(tables.rights, &asked, privilege) as u16)
+    Ok(some_has_right(tables.rights, privilege, |role| asked[role as usize]) as u16)
 }
 
 /// A row rests on earlier rows only, so no role is met twice.

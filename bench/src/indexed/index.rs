@@ -21,7 +21,7 @@ pub type Line = [u64; 8];
 const KIND_WORDS: usize = 4;
 const OWNER: usize = 7;
 
-fn bit(line: &Line, condition: u16) -> u64 {
+pub fn bit(line: &Line, condition: u16) -> u64 {
     line[(condition >> 6 & 7) as usize] >> (condition & 63) & 1
 }
 

@@ -85,11 +85,11 @@ fn rights_fit(rights: &[u16]) -> bool {
     seen.as_chunks().0.iter().all(|&[role, privilege]| role < ROLES && privilege < PRIVILEGES)
 }
 
-/// Some role of the set has the right. Sixteen rights at a time are asked for the privilege at once.
-pub fn some_has_right(rights: &[u16], roles: &[u64; 4], privilege: u16) -> bool {
+/// Some role that is asked for has the right. Sixteen rights at a time are compared with the privilege at once.
+pub fn some_has_right(rights: &[u16], privilege: u16, is_asked: impl Fn(u16) -> bool) -> bool {
     const NO_ROLE: u16 = u16::MAX;
     let wanted = [NO_ROLE, privilege, NO_ROLE, privilege, NO_ROLE, privilege, NO_ROLE, privilege];
-    let has = |pair: &[u16; 2]| pair[1] == privilege && roles[(pair[0] >> 6 & 3) as usize] >> (pair[0] & 63) & 1 == 1;
+    let has = |&[role, to]: &[u16; 2]| to == privilege && is_asked(role);
     let (many, rest) = rights.as_chunks::<32>();
     let met = |numbers: &&[u16; 32]| {
         let met: [u16; 8] = std::array::from_fn(|i| (0..4).fold(0, |met, row| met | u16::from(numbers[8 * row + i] == wanted[i])));
