@@ -145,10 +145,12 @@ impl Index {
             return false;
         }
         view.rows.iter().for_each(|row| self.add(row[0], view.facts));
-        self.takes_certificates(tables.kinds.len(), view.certificates) && view.rows.iter().all(|&row| self.takes_row(tables, row))
+        self.takes_certificates(tables.kinds.len(), view.certificates) && self.takes_rows(tables, view.rows)
     }
 
-    /// Ranges are kept, each kind has a row, and no certificate stands twice. A bit for each hash tells most of them apart.
+    /// Ranges are kept, each kind has a row, and no certificate stands twice. A bit for each hash tells most of them apart. This and
+    /// the next are not inlined: each loop then has the registers to itself, which saves a twentieth of a call.
+    #[inline(never)]
     fn takes_certificates(&mut self, kinds: usize, certificates: &[Row]) -> bool {
         let mut met = [0u64; 512];
         let mut wrong = false;
@@ -165,6 +167,11 @@ impl Index {
             self.add_certificate(*certificate);
         }
         !wrong
+    }
+
+    #[inline(never)]
+    fn takes_rows(&mut self, tables: &Tables, rows: &[Row]) -> bool {
+        rows.iter().all(|&row| self.takes_row(tables, row))
     }
 
     /// The row is sound over those taken before it. The rule's target is in range, and so is a role that is the same.
