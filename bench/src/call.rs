@@ -1,6 +1,6 @@
-//! A call as data, so that both sides, and both programs, are given the very same ones.
+//! A call as data, so that all sides, and both programs, are given the very same ones.
 
-use crate::plain;
+use crate::{indexed, plain};
 use adobethrum::{Answer, Policy};
 
 #[derive(Clone, Copy, Debug)]
@@ -46,26 +46,43 @@ pub fn ours(call: Call, policy: Policy, state: &mut [u16], list: &mut [u16]) -> 
     }
 }
 
-/// The baseline's call.
-#[inline(never)]
-pub fn plain(call: Call, policy: Policy, state: &mut [u16], list: &mut [u16]) -> Answer {
-    let outcome = match call {
-        Call::Fresh => plain::fresh(state),
-        Call::Activate(user, role) => plain::activate(policy, state, user, role),
-        Call::Appoint(appointer, appointee, kind) => plain::appoint(policy, state, appointer, appointee, kind),
-        Call::Revoke(caller, appointee, kind, appointer) => plain::revoke(policy, state, caller, appointee, kind, appointer),
-        Call::Withdraw(appointee, kind, appointer) => plain::withdraw(policy, state, appointee, kind, appointer),
-        Call::Environment(fact, value) => plain::environment(policy, state, fact, value),
-        Call::Logout(user) => plain::logout(policy, state, user),
-        Call::Invoke(user, privilege) => plain::invoke(policy, state, user, privilege),
-        Call::Effective(user, role, privilege) => plain::effective(policy, state, user, role, privilege),
-        Call::Chain(user, role) => plain::chain(policy, state, user, role, list),
+/// Declares the side of a baseline, whose calls answer `Ok(second)` or `Err(code)`.
+macro_rules! baseline {
+    ($(#[$doc:meta])* $engine:ident) => {
+        $(#[$doc])*
+        #[inline(never)]
+        pub fn $engine(call: Call, policy: Policy, state: &mut [u16], list: &mut [u16]) -> Answer {
+            let outcome = match call {
+                Call::Fresh => $engine::fresh(state),
+                Call::Activate(user, role) => $engine::activate(policy, state, user, role),
+                Call::Appoint(appointer, appointee, kind) => $engine::appoint(policy, state, appointer, appointee, kind),
+                Call::Revoke(caller, appointee, kind, appointer) => $engine::revoke(policy, state, caller, appointee, kind, appointer),
+                Call::Withdraw(appointee, kind, appointer) => $engine::withdraw(policy, state, appointee, kind, appointer),
+                Call::Environment(fact, value) => $engine::environment(policy, state, fact, value),
+                Call::Logout(user) => $engine::logout(policy, state, user),
+                Call::Invoke(user, privilege) => $engine::invoke(policy, state, user, privilege),
+                Call::Effective(user, role, privilege) => $engine::effective(policy, state, user, role, privilege),
+                Call::Chain(user, role) => $engine::chain(policy, state, user, role, list),
+            };
+            match outcome {
+                Ok(second) => Answer { code: 0, second },
+                Err(code) => Answer { code, second: 0 },
+            }
+        }
     };
-    match outcome {
-        Ok(second) => Answer { code: 0, second },
-        Err(code) => Answer { code, second: 0 },
-    }
 }
+
+baseline! {
+    /// The call of the baseline that scans.
+    plain
+}
+baseline! {
+    /// The call of the baseline with an index.
+    indexed
+}
+
+/// All sides, in the order of the table.
+pub const SIDES: [Side; 3] = [ours, plain, indexed];
 
 impl Call {
     /// The program's record of the call. Fresh and chain have none.

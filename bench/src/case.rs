@@ -1,6 +1,6 @@
-//! Cases: calls on a state, what they must answer, and what they cost on both sides.
+//! Cases: calls on a state, what they must answer, and what they cost on each side.
 
-use crate::call::{ours, plain, Call, Side};
+use crate::call::{Call, Side, SIDES};
 use crate::scene::Scene;
 use crate::table::Line;
 use adobethrum::{Answer, LIST, STATE};
@@ -30,22 +30,23 @@ pub struct Case {
 }
 
 impl Case {
-    /// Both sides must give the wanted answers, and the same state and list.
+    /// Each side must give the wanted answers, and the same state and list as the first.
     fn agree(&self) -> Result<(), String> {
         let wrong = |what: String| Err(format!("{}, {}: {what}", self.name, self.tables));
-        let [mut state, mut other] = [self.scene.state.clone(), self.scene.state.clone()];
-        let [mut list, mut other_list] = [[9; LIST]; 2];
+        let mut states = SIDES.map(|_| self.scene.state.clone());
+        let mut lists = SIDES.map(|_| [9; LIST]);
         for &(call, code, second) in &self.calls {
-            let a = ours(call, self.scene.policy(), &mut state, &mut list);
-            let b = plain(call, self.scene.policy(), &mut other, &mut other_list);
-            if a != (Answer { code, second }) {
-                return wrong(format!("{call:?} answers {a:?}, which is not what the case is about"));
+            for ((side, state), list) in SIDES.iter().zip(&mut states).zip(&mut lists) {
+                let answer = side(call, self.scene.policy(), state, list);
+                if answer != (Answer { code, second }) {
+                    return wrong(format!("{call:?} answers {answer:?}, which is not what the case is about"));
+                }
             }
-            if a != b || state != other || list != other_list {
-                return wrong(format!("{call:?}: the sides differ ({a:?}, {b:?})"));
+            if states[1..].iter().any(|state| *state != states[0]) || lists[1..].iter().any(|list| *list != lists[0]) {
+                return wrong(format!("{call:?}: the sides leave different numbers"));
             }
         }
-        if self.again == Again::AsItWas && state != self.scene.state {
+        if self.again == Again::AsItWas && states[0] != self.scene.state {
             return wrong("the calls do not restore the state".to_string());
         }
         Ok(())
@@ -71,41 +72,40 @@ impl Case {
         begun.elapsed()
     }
 
-    /// So many rounds that each side's batch is long enough.
-    fn rounds(&self) -> usize {
+    /// So many rounds that the side's batch is long enough.
+    fn rounds(&self, side: Side) -> usize {
         let mut rounds = 1;
-        while [ours, plain].iter().any(|&side: &Side| self.batch(side, rounds, &mut Vec::new()) < BATCH) {
+        while self.batch(side, rounds, &mut Vec::new()) < BATCH {
             rounds *= 2;
         }
         rounds
     }
 }
 
-/// A case that the sides agree on, and the best batch of each so far.
+/// A case that the sides agree on, and of each side the rounds of a batch and the best batch so far.
 pub struct Measured {
     case: Case,
-    rounds: usize,
-    best: [Duration; 2],
+    rounds: [usize; 3],
+    best: [Duration; 3],
 }
 
 impl Measured {
     pub fn new(case: Case) -> Result<Measured, String> {
         case.agree()?;
-        Ok(Measured { rounds: case.rounds(), case, best: [Duration::MAX; 2] })
+        Ok(Measured { rounds: SIDES.map(|side| case.rounds(side)), case, best: [Duration::MAX; 3] })
     }
 
-    /// Batches of the two sides take turns.
+    /// Batches of the sides take turns.
     pub fn pass(&mut self) {
         let mut states = Vec::new();
-        for _ in 0..BATCHES {
-            for (best, side) in self.best.iter_mut().zip([ours as Side, plain]) {
-                *best = self.case.batch(side, self.rounds, &mut states).min(*best);
-            }
+        for turn in 0..BATCHES * SIDES.len() {
+            let at = turn % SIDES.len();
+            self.best[at] = self.case.batch(SIDES[at], self.rounds[at], &mut states).min(self.best[at]);
         }
     }
 
     pub fn line(&self) -> Line {
-        let [ours, theirs] = self.best.map(|time| time.as_secs_f64() * 1e6 / self.rounds as f64);
-        Line { what: self.case.name.clone(), tables: self.case.tables.clone(), ours, against: "plain", theirs }
+        let [ours, plain, indexed] = [0, 1, 2].map(|at| self.best[at].as_secs_f64() * 1e6 / self.rounds[at] as f64);
+        Line { what: self.case.name.clone(), tables: self.case.tables.clone(), ours, others: vec![plain, indexed] }
     }
 }

@@ -40,6 +40,7 @@ fn on_workshop(scene: &Scene, size: &Size, tables: &str, falling: u16) -> Vec<Ca
         case("withdraw, then appoint", &[(Withdraw(LATE_USER, kind, LATE_USER), 0, 0), appoint]),
         case("revoke, then appoint", &[(Revoke(LATE_USER, LATE_USER, kind, LATE_USER), 0, 0), appoint]),
         case("environment, fells 0", &[(Environment(40, 0), 0, 0)]),
+        case("environment, 0 and 1, fells 0", &[(Environment(2, 0), 0, 0), (Environment(2, 1), 0, 0)]),
         Case { again: Again::Copied, ..falls },
         case("invoke, by the last right", &[(Invoke(user, LAST_PRIVILEGE), 0, 1)]),
         case("invoke, none", &[(Invoke(user, NO_PRIVILEGE), 0, 0)]),
@@ -67,12 +68,18 @@ fn on_diamonds(full: &Scene) -> Result<Vec<Case>, String> {
     ])
 }
 
+/// Fact 0 goes, on which all rest but the appointers: of each 32 rows 31 fall.
 fn on_growing(full: &Scene) -> Vec<Case> {
     let (user, _) = FULL.deep_user();
-    let calls = [("invoke, none", Invoke(user, NO_PRIVILEGE)), ("environment, fells 0", Environment(40, 0))];
     let sizes = [0, 32, 64, 128, 192, 256];
-    let each = calls.iter().flat_map(|call| sizes.map(|rows| (call, rows)));
-    each.map(|(&(name, call), rows)| case(name, &format!("{rows} rows"), &full.cut(rows), &[(call, 0, 0)])).collect()
+    let on = |name: &str, rows, call, second| case(name, &format!("{rows} rows"), &full.cut(rows), &[(call, 0, second)]);
+    let invoke = sizes.map(|rows| on("invoke, none", rows, Invoke(user, NO_PRIVILEGE), 0));
+    let idle = sizes.map(|rows| on("environment, fells 0", rows, Environment(40, 0), 0));
+    let falls = sizes.map(|rows| {
+        let falling = rows as u16 / 32 * 31;
+        Case { again: Again::Copied, ..on(&format!("environment, fells {falling}"), rows, Environment(0, 0), falling) }
+    });
+    [invoke, idle, falls].into_iter().flatten().collect()
 }
 
 /// Every case, in the order of the table.

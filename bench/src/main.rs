@@ -1,20 +1,30 @@
-//! What the engine's calls cost, side by side with an unverified engine; README.md says how to run it.
+//! What the engine's calls cost, side by side with two unverified engines; README.md says how to run it.
 
 #[cfg(test)]
 mod agree;
 mod call;
 mod case;
 mod cases;
+mod indexed;
 mod place;
 mod plain;
 mod programs;
 mod scene;
 mod table;
+mod worst;
+
+use table::{Head, Line};
 
 /// The machine is not always equally quick, so every case is measured in several passes over all of them.
 const PASSES: usize = 8;
 
-fn measured(programs: &[String]) -> Result<Vec<table::Line>, String> {
+const CALLS: Head = Head { title: "Public calls", unit: "µs", others: &["plain", "indexed"] };
+const EVENTS: Head = Head { title: "The program's events", unit: "µs", others: &["second"] };
+const TEXTS: Head = Head { title: "Whole texts through the program", unit: "ms", others: &["second"] };
+
+type Tables = Vec<(Head, Vec<Line>)>;
+
+fn measured(programs: &[String]) -> Result<Tables, String> {
     let programs = match programs {
         [] => None,
         [terminal, second] => Some([terminal.as_str(), second]),
@@ -31,14 +41,18 @@ fn measured(programs: &[String]) -> Result<Vec<table::Line>, String> {
             sessions.iter_mut().try_for_each(|session| session.pass(programs))?;
         }
     }
-    let lines = cases.iter().map(case::Measured::line);
-    Ok(lines.chain(sessions.iter().map(programs::Session::line)).collect())
+    let mut tables = vec![(CALLS, cases.iter().map(case::Measured::line).collect())];
+    if let Some(programs) = programs {
+        tables.push((EVENTS, sessions.iter().map(programs::Session::line).collect()));
+        tables.push((TEXTS, worst::lines(programs)?));
+    }
+    Ok(tables)
 }
 
 fn main() {
     let (options, programs): (Vec<String>, Vec<String>) = std::env::args().skip(1).partition(|word| word == "--page");
     match measured(&programs) {
-        Ok(lines) => table::print(&lines, !options.is_empty()),
+        Ok(tables) => tables.iter().for_each(|(head, lines)| table::print(head, lines, !options.is_empty())),
         Err(why) => {
             eprintln!("bench: {why}");
             std::process::exit(1);

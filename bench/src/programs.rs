@@ -12,7 +12,7 @@ const ROOM: usize = 65536;
 const RUNS: usize = 3;
 
 /// The wall time of a program on an input, and what it writes.
-fn run(program: &str, input: &str) -> Result<(Duration, Vec<u8>), String> {
+pub fn run(program: &str, input: &str) -> Result<(Duration, Vec<u8>), String> {
     let failed = |error| format!("{program}: {error}");
     let begun = Instant::now();
     let mut child = Command::new(program).stdin(Stdio::piped()).stdout(Stdio::piped()).spawn().map_err(failed)?;
@@ -69,12 +69,12 @@ impl Session {
     pub fn line(&self) -> Line {
         let each = |[with, without]: [Duration; 2]| (with.as_secs_f64() - without.as_secs_f64()) * 1e6 / self.times as f64;
         let [ours, theirs] = self.best.map(each);
-        Line { what: self.what.clone(), tables: self.tables.into(), ours, against: "second", theirs }
+        Line { what: self.what.clone(), tables: self.tables.into(), ours, others: vec![theirs] }
     }
 }
 
 /// The scene's session, and the calls again and again, as often as there is room; returns how often.
-fn with_events(scene: &Scene, calls: &[Call]) -> (String, usize) {
+pub fn with_events(scene: &Scene, calls: &[Call]) -> (String, usize) {
     let story = scene.records();
     let events: String = calls.iter().map(|call| call.record()).collect();
     let times = (ROOM - story.len()) / events.len();

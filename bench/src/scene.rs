@@ -1,10 +1,11 @@
 //! Policies, and the calls that lead from a fresh state to the one that is measured.
 
-use crate::call::{ours, plain, Call};
+use crate::call::{Call, SIDES};
 use adobethrum::{Policy, LIST, STATE};
 
-const ROWS: usize = 64;
-const CERTIFICATES: usize = 833;
+/// Where the counts of active rows and of certificates stand in a state.
+pub const ROWS: usize = 64;
+pub const CERTIFICATES: usize = 833;
 
 /// A privilege that only the last right gives, and one that none gives.
 pub const LAST_PRIVILEGE: u16 = 1001;
@@ -54,14 +55,14 @@ impl Size {
 }
 
 impl Scene {
-    fn rule(&mut self, target: u16, membership: u16, conditions: &[u16]) {
+    pub fn rule(&mut self, target: u16, membership: u16, conditions: &[u16]) {
         let mut row = [0; 11];
         row[..3].copy_from_slice(&[target, conditions.len() as u16, membership]);
         row[3..3 + conditions.len()].copy_from_slice(conditions);
         self.rules.extend(row);
     }
 
-    fn kind(&mut self, appointer: u16, mode: u16, prerequisites: &[u16]) {
+    pub fn kind(&mut self, appointer: u16, mode: u16, prerequisites: &[u16]) {
         let mut row = [0; 7];
         row[..3].copy_from_slice(&[appointer, mode, prerequisites.len() as u16]);
         row[3..3 + prerequisites.len()].copy_from_slice(prerequisites);
@@ -72,17 +73,18 @@ impl Scene {
         Policy { rules: &self.rules, kinds: &self.kinds, rights: &self.rights }
     }
 
-    /// Runs the story on both sides, which must agree on every answer and on the state that it ends in.
-    fn told(mut self) -> Result<Scene, String> {
-        let [mut state, mut other] = [[0; STATE]; 2];
+    /// Runs the story on every side. Each call must be accepted, with the same answer and the same state on all.
+    pub fn told(mut self) -> Result<Scene, String> {
+        let mut states = SIDES.map(|_| [0; STATE]);
         let mut list = [0; LIST];
         for &call in &self.story {
-            let answer = ours(call, self.policy(), &mut state, &mut list);
-            if answer.code != 0 || answer != plain(call, self.policy(), &mut other, &mut list) || state != other {
-                return Err(format!("{call:?} of a story: refused, or not as the baseline has it"));
+            let answers = [0, 1, 2].map(|at| SIDES[at](call, self.policy(), &mut states[at], &mut list));
+            let agreed = answers[1..].iter().all(|answer| *answer == answers[0]) && states[1..].iter().all(|state| *state == states[0]);
+            if answers[0].code != 0 || !agreed {
+                return Err(format!("{call:?} of a story: refused, or the sides differ"));
             }
         }
-        self.state = state.to_vec();
+        self.state = states[0].to_vec();
         Ok(self)
     }
 

@@ -1,7 +1,7 @@
 //! The groups of calls, and how much of each is run.
 
 use crate::damaged::{self, Target};
-use crate::pair::Outcome;
+use crate::pair::{Failure, Outcome};
 use crate::report::Counts;
 use crate::worlds::Size;
 use crate::{orders, sessions};
@@ -35,6 +35,18 @@ pub fn groups(share: u64) -> Vec<Group> {
         of_orders("withdrawal lists on full states", Full, of(10), 1_000, 8),
         of_orders("withdrawal lists on ladders", Ladder, of(15), 800, 8),
     ]
+}
+
+/// Runs such a part of each group until one fails: the group's name and the case.
+pub fn first_failure(
+    seed: u64,
+    share: u64,
+    counts: &mut Counts,
+) -> Option<(&'static str, Box<Failure>)> {
+    (1..).zip(groups(share)).find_map(|(part, group)| {
+        let failure = (group.run)(seed, part, counts).err()?;
+        Some((group.name, failure))
+    })
 }
 
 fn of_noise(name: &'static str, cases: u64) -> Group {

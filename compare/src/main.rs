@@ -35,12 +35,15 @@ const TEXTS: u64 = 1_500;
 const LONG: usize = 30;
 const LEAST_CALLS: u64 = 1_000_000;
 const USAGE: &str = "usage: compare [--seed N] PROGRAM
+       compare --first [--share N] [--seed N]
        compare --again LINE
        compare --teeth [--seed N]      (with the feature stand-in)";
 
 #[derive(Default)]
 struct Asked {
     seed: Option<u64>,
+    first: bool,
+    share: Option<u64>,
     again: Option<String>,
     teeth: bool,
     program: Option<PathBuf>,
@@ -51,6 +54,9 @@ fn main() {
     let status = match asked() {
         Some(Asked { again: Some(line), .. }) => again(&line),
         Some(Asked { teeth: true, seed, .. }) => bite(seed.unwrap_or(SEED)),
+        Some(Asked { first: true, seed, share, program: None, .. }) => {
+            up_to_first(seed.unwrap_or(SEED), share.unwrap_or(1))
+        }
         Some(Asked { program: Some(program), seed, .. }) => all(&program, seed.unwrap_or(SEED)),
         _ => {
             eprintln!("{USAGE}");
@@ -66,6 +72,8 @@ fn asked() -> Option<Asked> {
     while let Some(argument) = arguments.next() {
         match argument.as_str() {
             "--seed" => asked.seed = Some(arguments.next()?.parse().ok()?),
+            "--first" => asked.first = true,
+            "--share" => asked.share = Some(arguments.next()?.parse().ok().filter(|&n| n > 0)?),
             "--again" => asked.again = Some(arguments.next()?),
             "--teeth" => asked.teeth = true,
             _ if argument.starts_with('-') || asked.program.is_some() => return None,
@@ -101,6 +109,24 @@ fn all(program: &Path, seed: u64) -> i32 {
     report.group("each code of each call that can be met was met", wrong.is_empty());
     report.group("a million calls", counts.calls() >= LEAST_CALLS);
     println!("{:.1} s", begun.elapsed().as_secs_f32());
+    report.end()
+}
+
+/// The calls without the program, of each group one part in so many, up to the
+/// first mismatch. It is told in one line and not cut down.
+fn up_to_first(seed: u64, share: u64) -> i32 {
+    println!("seed {seed}, one part in {share}");
+    let mut counts = Counts::default();
+    let mut report = Report::default();
+    match groups::first_failure(seed, share, &mut counts) {
+        Some((group, failure)) => {
+            let call = counts.calls() + 1;
+            let what = (failure.test)(&failure.case).map(|(_, what)| what);
+            let what = what.unwrap_or("it failed once and then not again".to_string());
+            report.group(&format!("{group}, call {call}: {what}"), false);
+        }
+        None => report.group(&format!("no mismatch in {} calls", counts.calls()), true),
+    }
     report.end()
 }
 

@@ -67,7 +67,10 @@ fn same(name: &str, engine: &[u16], second: &[u16]) -> Result<(), String> {
         return Ok(());
     }
     let at = engine.iter().zip(second).position(|(a, b)| a != b).unwrap_or(0);
-    Err(format!("number {at} of the {name} is {} and should be {}", engine[at], second[at]))
+    Err(format!(
+        "number {at} of the {name} is {} in the engine and {} in the second implementation",
+        engine[at], second[at]
+    ))
 }
 
 pub fn second_call(tables: &Tables, state: &mut [u16], event: &Event, list: &mut [u16]) -> Answer {

@@ -1,8 +1,7 @@
 //! Whether the comparison bites: each fault of the stand-in must be found.
 
 use crate::case::*;
-use crate::groups::groups;
-use crate::pair::Failure;
+use crate::groups::first_failure;
 use crate::report::{Counts, Report};
 use crate::sessions::fresh_state;
 use crate::stand_in::{FAULT, FAULTS};
@@ -16,7 +15,9 @@ pub fn run(seed: u64) -> i32 {
     let mut report = Report::default();
     for (number, name) in (1..).zip(FAULTS) {
         FAULT.store(number, Relaxed);
-        let (found, calls) = first_failure(seed);
+        let mut counts = Counts::default();
+        let found = first_failure(seed, SHARE, &mut counts);
+        let calls = counts.calls() + u64::from(found.is_some());
         match &found {
             Some((group, failure)) => {
                 report.group(&format!("{name}: found after {calls} calls, in {group}"), true);
@@ -28,16 +29,6 @@ pub fn run(seed: u64) -> i32 {
     FAULT.store(0, Relaxed);
     report.group("a list whose end depends on the order is found", order_is_found());
     report.end()
-}
-
-fn first_failure(seed: u64) -> (Option<(&'static str, Box<Failure>)>, u64) {
-    let mut counts = Counts::default();
-    for (part, group) in (1..).zip(groups(SHARE)) {
-        if let Err(failure) = (group.run)(seed, part, &mut counts) {
-            return (Some((group.name, failure)), counts.calls() + 1);
-        }
-    }
-    (None, counts.calls())
 }
 
 /// A revocation is no withdrawal: whether it is allowed depends on what fell
