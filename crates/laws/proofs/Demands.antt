@@ -2,7 +2,7 @@
 -- citing the file of crates/model/proofs that did the work.
 use Prim.Native.Nat.{ℕ, _+_, _<_}
 use mathlib.Core.Path.{_≡_, refl, sym, ap, _∙_, subst⁻¹, subst₂}
-use mathlib.Core.Bool.{not}
+use mathlib.Core.Bool.{Bool, not}
 use mathlib.Core.Logic.{_≢_, _↔_}
 use mathlib.Core.List.{List, [], _∷_, List·Memᴰ, List·Permᴰ, Sublistᴰ}
 use native.Mathlib.Omega.{arith}
@@ -27,6 +27,7 @@ use Rattle.model.proofs.Numbers.{decode-encode, encode-decode, sound-formed, so
 use Rattle.model.proofs.Refusals.{first-applies, only-first, answer-code, refused-unchanged, kept-once}
 use Rattle.model.proofs.Accepted.{zeros-sound, accepted-sound, accepted-largest}
 use Rattle.model.proofs.Carried.{carried-allowed, carries-least}
+use Rattle.model.proofs.Sweep.{one-largest}
 use Rattle.model.proofs.Grants.{rule-gives-grant, granted, invoke-accepted, invoked-one, carried-invoked, effective-one}
 use Rattle.model.proofs.Orders.{run-leaves, run-rows, order-free, fewer-keep}
 use Rattle.model.proofs.Counts.{run-loses, balance}
@@ -77,6 +78,10 @@ granted-by-the-lowest = granted
 pub after-each-call-the-largest : (t : Tables) (s list : List ℕ) (c : Call) → answer t s list c .code ≡ accepted
     → Largest (supported (worldOf (policyOf t) (decode (answer t s list c .state)))) (held (policyOf t) (decode s) c) (decode (answer t s list c .state) .rows)
 after-each-call-the-largest = accepted-largest
+
+-- and no other part is: the words leave no choice
+pub only-one-is-largest : (supports : List Row → Row → Bool) (held xs ys : List Row) → Largest supports held xs → Largest supports held ys → xs ≡ ys
+only-one-is-largest = one-largest
 
 -- (c) an invocation is accepted, and answers 1 exactly if an active role of the user carries the privilege
 pub allowed-exactly-if : (t : Tables) (s list : List ℕ) (u x : ℕ) → Sound t s → u < users → x < privileges

@@ -23,7 +23,8 @@ use Rattle.model.specs.Tally.{Made, grantedAfter, lostAfter, next, tally}
 use Rattle.model.specs.declared.Certificate.{Certificate}
 use Rattle.model.proofs.Support.{of-active}
 use Rattle.model.proofs.Numbers.{sound-decode}
-use Rattle.laws.proofs.Demands.{refusal-changes-nothing, the-first-that-applies, no-other-is-first, zeros-are-sound, accepted-leaves-sound, encode-undoes-decode, decode-undoes-encode, granted-exactly-if, granted-by-the-lowest, after-each-call-the-largest, allowed-exactly-if, effective-is-definition-10, definition-10-is-least, effective-privileges-are-held, ends-as-all-at-once, any-order-ends-alike, any-order-loses-alike, total-is-what-was-lost, fewer-withdrawals-keep-more, one-outcome, grants-less-losses}
+use Rattle.model.specs.declared.Row.{Row}
+use Rattle.laws.proofs.Demands.{only-one-is-largest, refusal-changes-nothing, the-first-that-applies, no-other-is-first, zeros-are-sound, accepted-leaves-sound, encode-undoes-decode, decode-undoes-encode, granted-exactly-if, granted-by-the-lowest, after-each-call-the-largest, allowed-exactly-if, effective-is-definition-10, definition-10-is-least, effective-privileges-are-held, ends-as-all-at-once, any-order-ends-alike, any-order-loses-alike, total-is-what-was-lost, fewer-withdrawals-keep-more, one-outcome, grants-less-losses}
 
 -- ── the yard ──
 
@@ -92,6 +93,9 @@ yard-sound = accepted-leaves-sound yard midday [] (environment 0 0) (closed .0)
 
 yard-largest : Largest (supported (worldOf (policyOf yard) (decode (at-midday (environment 0 0) .state)))) (held (policyOf yard) (decode midday) (environment 0 0)) (decode (at-midday (environment 0 0) .state) .rows)
 yard-largest = after-each-call-the-largest yard midday [] (environment 0 0) (closed .0)
+
+yard-one-largest : (rows : List Row) → Largest (supported (worldOf (policyOf yard) (decode (at-midday (environment 0 0) .state)))) (held (policyOf yard) (decode midday) (environment 0 0)) rows → rows ≡ decode (at-midday (environment 0 0) .state) .rows
+yard-one-largest rows l = only-one-is-largest _ _ rows _ l yard-largest
 
 yard-encoded : encode (decode midday) ≡ midday
 yard-encoded = encode-undoes-decode (policyOf yard) midday (sound-yard .state)
