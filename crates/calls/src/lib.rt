@@ -82,7 +82,7 @@ pub fn revoke(
     if code != 0 {
         return Answer { code, second: 0 };
     }
-    inner::revoke(
+    taking::revoke(
         rules,
         kinds,
         rights,
@@ -109,7 +109,7 @@ pub fn withdraw(
     if code != 0 {
         return Answer { code, second: 0 };
     }
-    inner::withdraw(rules, kinds, rights, state, appointee, kind, appointer)
+    taking::withdraw(rules, kinds, rights, state, appointee, kind, appointer)
 }
 
 pub fn environment(
@@ -126,7 +126,7 @@ pub fn environment(
     if code != 0 {
         return Answer { code, second: 0 };
     }
-    inner::environment(rules, kinds, rights, state, fact, value)
+    taking::environment(rules, kinds, rights, state, fact, value)
 }
 
 pub fn logout(rules: &[u16], kinds: &[u16], rights: &[u16], state: &mut [u16], user: u16) -> Answer
@@ -136,7 +136,7 @@ pub fn logout(rules: &[u16], kinds: &[u16], rights: &[u16], state: &mut [u16], u
     if code != 0 {
         return Answer { code, second: 0 };
     }
-    inner::logout(rules, kinds, rights, state, user)
+    taking::logout(rules, kinds, rights, state, user)
 }
 
 pub fn invoke(

@@ -23,10 +23,10 @@ fn call(rules: &[u16], kinds: &[u16], rights: &[u16], state: &mut [u16], line: L
     match word {
         3 => inner::activate(rules, kinds, rights, state, n[0], n[1]),
         4 => inner::appoint(rules, kinds, rights, state, n[0], n[1], n[2]),
-        5 => inner::revoke(rules, kinds, rights, state, n[0], n[1], n[2], n[3]),
-        6 => inner::withdraw(rules, kinds, rights, state, n[0], n[1], n[2]),
-        7 => inner::environment(rules, kinds, rights, state, n[0], n[1]),
-        8 => inner::logout(rules, kinds, rights, state, n[0]),
+        5 => taking::revoke(rules, kinds, rights, state, n[0], n[1], n[2], n[3]),
+        6 => taking::withdraw(rules, kinds, rights, state, n[0], n[1], n[2]),
+        7 => taking::environment(rules, kinds, rights, state, n[0], n[1]),
+        8 => taking::logout(rules, kinds, rights, state, n[0]),
         9 => query::invoke(rules, kinds, rights, state, n[0], n[1]),
         _ => query::effective(rules, kinds, rights, state, n[0], n[1], n[2]),
     }

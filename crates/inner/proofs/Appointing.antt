@@ -1,10 +1,10 @@
--- Appoint, and who may revoke.
+-- Appoint: each answer that the code gives is the model's.
 use Prim.Native.Nat.{ℕ, _≤_, _<_, _/_}
-use mathlib.Core.Path.{_≡_, refl, sym, ap, _∙_}
-use mathlib.Core.Bool.{Bool, true, false, not, cond}
+use mathlib.Core.Path.{_≡_, refl}
+use mathlib.Core.Bool.{true, false, not}
 use mathlib.Core.List.{List, [], _∷_, _++_}
 use native.Mathlib.Omega.{arith}
-use lib.Dec.{T, eqb, lt→ltb, le→leb}
+use lib.Dec.{T, lt→ltb, le→leb}
 use lib.ListN.{length}
 use borrow.Author.Tests.{lt-leb}
 use Rattle.model.specs.Lists.{every, firstPlace}
@@ -13,31 +13,14 @@ use Rattle.model.specs.Layout.{policyOf, decode, encode, certificateCount}
 use Rattle.model.specs.Conditions.{kindNumbered, active}
 use Rattle.model.specs.Sound.{sameCertificate}
 use Rattle.model.specs.Outcome.{judgedFirst, given}
-use Rattle.model.specs.Calls.{appoint, isUser, hasRow, stands, mayRevoke, appointOn, courseOf}
+use Rattle.model.specs.Calls.{appoint, isUser, hasRow, stands, appointOn, courseOf}
 use Rattle.model.specs.Words.{Sound, none, here, later}
 use Rattle.model.specs.declared.Answer.{Answer}
-use Rattle.model.specs.declared.Kind.{Kind}
-use Rattle.model.specs.declared.Row.{Row}
 use Rattle.model.proofs.Tests.{of-true, of-false}
 use Rattle.table.specs.Entries.{without-rights}
 use Rattle.inner.specs.Lent.{lent, Answers}
 use Rattle.inner.proofs.First.{found-any, not-found}
-use Rattle.inner.proofs.Codes.{own-refuses, own-accepts, in-range, found, certificate-length}
-use Rattle.inner.proofs.Falls.{some-kind}
-
--- ── the modes ──
-
-module _ (rows : List Row) (read k : Kind) (caller appointer : ℕ) (e : read ≡ k) where
-  pub by-appointer : eqb (read .mode) 0 ≡ true → eqb caller appointer ≡ mayRevoke rows k caller appointer
-  by-appointer m = sym (ap (λ (b : Bool). cond b (eqb caller appointer) (cond (eqb (read .mode) 1) (active rows caller (read .appointer)) false)) m) ∙ ap (λ (x : Kind). mayRevoke rows x caller appointer) e
-
-  pub by-role : eqb (read .mode) 0 ≡ false → eqb (read .mode) 1 ≡ true → active rows caller (read .appointer) ≡ mayRevoke rows k caller appointer
-  by-role m n = sym ((λ i. cond (m i) (eqb caller appointer) (cond (n i) (active rows caller (read .appointer)) false))) ∙ ap (λ (x : Kind). mayRevoke rows x caller appointer) e
-
-  pub by-nobody : eqb (read .mode) 0 ≡ false → eqb (read .mode) 1 ≡ false → false ≡ mayRevoke rows k caller appointer
-  by-nobody m n = sym ((λ i. cond (m i) (eqb caller appointer) (cond (n i) (active rows caller (read .appointer)) false))) ∙ ap (λ (x : Kind). mayRevoke rows x caller appointer) e
-
--- ── appoint ──
+use Rattle.inner.proofs.Codes.{own-refuses, own-accepts, in-range, found, certificate-length, some-kind}
 
 module _ (rules kinds rights s : List ℕ) (h : Sound (lent rules kinds rights) s) (b a k : ℕ) where
   appoint-is : courseOf (lent rules kinds rights) s [] (appoint b a k) ≡ judgedFirst (lent rules kinds rights) s (appointOn (given (lent rules kinds rights) s []) (record { appointee = a; kind = k; appointer = b }))

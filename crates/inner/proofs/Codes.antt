@@ -5,15 +5,16 @@ use mathlib.Core.Bool.{Bool, true, false, not, _&&_, true≢false}
 use mathlib.Core.Logic.{_≢_}
 use mathlib.Core.List.{List, [], _∷_}
 use native.Mathlib.Omega.{arith}
-use lib.Dec.{T, leb→le}
+use lib.Dec.{T, leb→le, lt→ltb}
 use lib.ListN.{length, getD}
+use borrow.Author.Tests.{le-ltb}
 use Rattle.model.specs.Lists.{every}
 use Rattle.model.specs.Records.{Tables}
-use Rattle.model.specs.Layout.{policyOf, decode, encode, rowCount, ruleFrom, rowFrom, rowNumbers, certificateCount, certificateFrom, certificateNumbers}
+use Rattle.model.specs.Layout.{policyOf, decode, encode, rowCount, ruleFrom, kindFrom, rowFrom, rowNumbers, certificateCount, certificateFrom, certificateNumbers}
 use Rattle.model.specs.Conditions.{active}
 use Rattle.model.specs.Sound.{policyClauses, soundPolicy, wellFormed, sound}
 use Rattle.model.specs.Outcome.{Course, judgedFirst}
-use Rattle.model.specs.Calls.{Call, courseOf, answer}
+use Rattle.model.specs.Calls.{Call, hasRow, courseOf, answer}
 use Rattle.model.specs.Words.{Sound, FirstApplies, later}
 use Rattle.model.specs.declared.Answer.{Answer}
 use Rattle.model.proofs.Numbers.{sound-formed}
@@ -96,6 +97,17 @@ unfolding policyClauses policyOf
 sound-rules rules kinds rights s h =
     let e = each (policyClauses (lent rules kinds rights)) (h .policy) in
     omega (arith, leb→le (length (policyOf (lent rules kinds rights) .rules)) 512 (e .1 .1 .1 .0), length-entries ruleFrom 11 rules (length rules / 11))
+
+-- a kind has a row exactly if its number is below the number of kinds
+kind-count : (rules kinds rights : List ℕ) → length (policyOf (lent rules kinds rights) .kinds) ≡ length kinds / 7
+unfolding policyOf
+kind-count rules kinds rights = length-entries kindFrom 7 kinds (length kinds / 7)
+
+pub no-kind : (rules kinds rights : List ℕ) (k : ℕ) → length kinds / 7 ≤ k → hasRow (policyOf (lent rules kinds rights)) k ≡ false
+no-kind rules kinds rights k l = le-ltb k (length (policyOf (lent rules kinds rights) .kinds)) (omega (arith, kind-count rules kinds rights))
+
+pub some-kind : (rules kinds rights : List ℕ) (k : ℕ) → k < length kinds / 7 → T (hasRow (policyOf (lent rules kinds rights)) k)
+some-kind rules kinds rights k l = lt→ltb k (length (policyOf (lent rules kinds rights) .kinds)) (omega (arith, kind-count rules kinds rights))
 
 -- ── a call that is judged first, on sound tables ──
 

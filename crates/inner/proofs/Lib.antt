@@ -2,5 +2,4 @@ pub mod First
 pub mod Codes
 pub mod Clearing
 pub mod Activation
-pub mod Falls
 pub mod Appointing

@@ -1,21 +1,20 @@
-// The calls that change a state, on sound tables, for code that can show that they are sound. Each equals the model's call.
+// The calls that begin a state and add to it, on sound tables, for code that can show that they are sound. Each equals the model's
+// call.
 ghost use mathlib.Core.Path.{_≡_};
-ghost use mathlib.Core.Bool.{true};
-ghost use mathlib.Core.List.{[], _++_};
-ghost use Prim.Native.Nat.{suc, _<_};
-ghost use lib.ListN.{length, take, drop};
+ghost use mathlib.Core.List.{[]};
+ghost use Prim.Native.Nat.{_<_};
+ghost use lib.ListN.{length};
 ghost use Rattle.model.specs.Lists.{firstPlace};
 ghost use Rattle.model.specs.Limits.{users, stateSize};
-ghost use Rattle.model.specs.Records.{withCertificates};
-ghost use Rattle.model.specs.Layout.{decode, policyOf, certificateCount};
-ghost use Rattle.model.specs.Conditions.{satisfied, kindNumbered};
-ghost use Rattle.model.specs.Sound.{wellFormed, sameCertificate};
-ghost use Rattle.model.specs.Calls.{fresh as freshCall, activate as activateCall, appoint as appointCall, revoke as revokeCall, withdraw as withdrawCall, environment as environmentCall, logout as logoutCall, mayRevoke};
+ghost use Rattle.model.specs.Layout.{decode, policyOf};
+ghost use Rattle.model.specs.Conditions.{satisfied};
+ghost use Rattle.model.specs.Sound.{sameCertificate};
+ghost use Rattle.model.specs.Calls.{fresh as freshCall, activate as activateCall, appoint as appointCall};
 ghost use Rattle.model.specs.Words.{Sound};
 ghost use Rattle.table.specs.Entries.{worldAt, without-rights, Sized};
 ghost use Rattle.index.specs.Marked.{Room, block, satisfiedBy};
 ghost use Rattle.index.specs.Indexed.{InRange};
-ghost use Rattle.inner.specs.Lent.{lent, Answers, Fallen};
+ghost use Rattle.inner.specs.Lent.{lent, Answers};
 use model::Answer;
 use model::Certificate;
 use model::Row;
@@ -23,8 +22,6 @@ use model::Row;
 const USERS: u16 = 4096;
 
 const ROLES: u16 = 256;
-
-const FACTS: u16 = 64;
 
 const ROW_COUNT: usize = 64;
 
@@ -75,7 +72,7 @@ fn lowest_rule(rules: &[u16], kinds: &[u16], state: &[u16], user: u16, role: u16
 }
 
 // Where the certificate stands, or the number of certificates if it does not.
-fn find_certificate(state: &[u16], certificate: Certificate) -> usize
+pub fn find_certificate(state: &[u16], certificate: Certificate) -> usize
     requires { ⌜ Sized (now state) ⌝ }
     ensures { λ r. ⌜ r ≡ firstPlace (sameCertificate certificate) (decode (now (state .entry)) .certificates) ⌝ }
 {
@@ -175,142 +172,4 @@ pub fn appoint(
     }
     change::append_certificate(state, certificate);
     refused(0)
-}
-
-// Certificate j goes, and the rows that lose their support fall. Returns how many rows were lost.
-fn take_certificate(rules: &[u16], kinds: &[u16], state: &mut [u16], j: usize) -> u16
-    requires { ⌜ (wellFormed (now state) ≡ true) × InRange (now state) × (j < certificateCount (now state)) ⌝ }
-    ensures { λ r. ⌜ Fallen (now (rules .entry)) (now (kinds .entry)) (withCertificates (decode (now (state .entry))) (take j (decode (now (state .entry)) .certificates) ++ drop (suc j) (decode (now (state .entry)) .certificates))) (now (state .exit)) r ⌝ }
-{
-    change::remove_certificate(state, j);
-    fall::fall(rules, kinds, state)
-}
-
-// Mode and caller allow the certificate's revocation.
-fn may_revoke(kinds: &[u16], state: &[u16], caller: u16, kind: u16, appointer: u16) -> bool
-    requires { ⌜ Sized (now state) ⌝ }
-    ensures { λ r. ⌜ r ≡ mayRevoke (decode (now (state .entry)) .rows) (kindNumbered (policyOf (without-rights [] (now (kinds .entry)))) kind) caller appointer ⌝ }
-{
-    let row = table::kind_numbered(kinds, table::wide(kind));
-    let mode = row.mode;
-    if mode == 0 {
-        return caller == appointer;
-    }
-    if mode == 1 {
-        let k = table::wide(state[ROW_COUNT]);
-        return table::is_active(state, k, caller, row.appointer);
-    }
-    false
-}
-
-pub fn revoke(
-    rules: &[u16],
-    kinds: &[u16],
-    rights: &[u16],
-    state: &mut [u16],
-    caller: u16,
-    appointee: u16,
-    kind: u16,
-    appointer: u16,
-) -> Answer
-    requires { ⌜ Sound (lent (now rules) (now kinds) (now rights)) (now state) ⌝ }
-    ensures { λ r. ⌜ Answers (lent (now (rules .entry)) (now (kinds .entry)) (now (rights .entry))) (now (state .entry)) (revokeCall caller appointee kind appointer) r (now (state .exit)) ⌝ }
-{
-    if USERS <= caller {
-        return refused(3);
-    }
-    if USERS <= appointee {
-        return refused(3);
-    }
-    if kinds.len() / KIND_WIDTH <= table::wide(kind) {
-        return refused(3);
-    }
-    if USERS <= appointer {
-        return refused(3);
-    }
-    let j = find_certificate(
-        state,
-        Certificate {
-            appointee,
-            kind,
-            appointer,
-        },
-    );
-    if table::wide(state[CERTIFICATE_COUNT]) <= j {
-        return refused(9);
-    }
-    if !may_revoke(kinds, state, caller, kind, appointer) {
-        return refused(10);
-    }
-    let second = take_certificate(rules, kinds, state, j);
-    Answer { code: 0, second }
-}
-
-pub fn withdraw(
-    rules: &[u16],
-    kinds: &[u16],
-    rights: &[u16],
-    state: &mut [u16],
-    appointee: u16,
-    kind: u16,
-    appointer: u16,
-) -> Answer
-    requires { ⌜ Sound (lent (now rules) (now kinds) (now rights)) (now state) ⌝ }
-    ensures { λ r. ⌜ Answers (lent (now (rules .entry)) (now (kinds .entry)) (now (rights .entry))) (now (state .entry)) (withdrawCall appointee kind appointer) r (now (state .exit)) ⌝ }
-{
-    if USERS <= appointee {
-        return refused(3);
-    }
-    if kinds.len() / KIND_WIDTH <= table::wide(kind) {
-        return refused(3);
-    }
-    if USERS <= appointer {
-        return refused(3);
-    }
-    let j = find_certificate(
-        state,
-        Certificate {
-            appointee,
-            kind,
-            appointer,
-        },
-    );
-    if table::wide(state[CERTIFICATE_COUNT]) <= j {
-        return refused(9);
-    }
-    let second = take_certificate(rules, kinds, state, j);
-    Answer { code: 0, second }
-}
-
-pub fn environment(
-    rules: &[u16],
-    kinds: &[u16],
-    rights: &[u16],
-    state: &mut [u16],
-    fact: u16,
-    value: u16,
-) -> Answer
-    requires { ⌜ Sound (lent (now rules) (now kinds) (now rights)) (now state) ⌝ }
-    ensures { λ r. ⌜ Answers (lent (now (rules .entry)) (now (kinds .entry)) (now (rights .entry))) (now (state .entry)) (environmentCall fact value) r (now (state .exit)) ⌝ }
-{
-    if FACTS <= fact {
-        return refused(3);
-    }
-    if 2 <= value {
-        return refused(3);
-    }
-    change::set_fact(state, table::wide(fact), value);
-    let second = fall::fall(rules, kinds, state);
-    Answer { code: 0, second }
-}
-
-pub fn logout(rules: &[u16], kinds: &[u16], rights: &[u16], state: &mut [u16], user: u16) -> Answer
-    requires { ⌜ Sound (lent (now rules) (now kinds) (now rights)) (now state) ⌝ }
-    ensures { λ r. ⌜ Answers (lent (now (rules .entry)) (now (kinds .entry)) (now (rights .entry))) (now (state .entry)) (logoutCall user) r (now (state .exit)) ⌝ }
-{
-    if USERS <= user {
-        return refused(3);
-    }
-    let second = fall::drop_user(state, user);
-    Answer { code: 0, second }
 }

@@ -9,8 +9,7 @@ use Rattle.model.specs.Calls.{isUser, hasRow}
 use Rattle.model.specs.declared.Kind.{Kind}
 use Rattle.table.specs.Entries.{without-rights}
 use Rattle.inner.specs.Lent.{lent}
-use Rattle.inner.proofs.Codes.{sound-form, sound-sized, out-of-range, active-now}
-use Rattle.inner.proofs.Falls.{no-kind}
+use Rattle.inner.proofs.Codes.{sound-form, sound-sized, out-of-range, active-now, no-kind}
 use Rattle.inner.proofs.Appointing.{appoint-out, appoint-not-in-role, appoint-stands, appoint-full, appoint-done}
 use borrow.Author.Needs.{needs}
 use Rattle.inner.proofs.appoint.Statement.{statement}

@@ -6,11 +6,11 @@ use borrow.Author.Tests.{eq-eqb, ne-eqb}
 use Rattle.model.specs.Layout.{decode, policyOf}
 use Rattle.model.specs.Conditions.{kindNumbered}
 use Rattle.table.specs.Entries.{without-rights}
 use Rattle.inner.proofs.Codes.{active-now}
-use Rattle.inner.proofs.Appointing.{by-appointer, by-role, by-nobody}
+use Rattle.taking.proofs.Modes.{by-appointer, by-role, by-nobody}
 use borrow.Author.Needs.{needs}
-use Rattle.inner.proofs.may_revoke.Statement.{statement}
-use Rattle.inner.proofs.may_revoke.Tie as tie
+use Rattle.taking.proofs.may_revoke.Statement.{statement}
+use Rattle.taking.proofs.may_revoke.Tie as tie
 
 -- src/lib.rt:169:43
 wide-requires : tie.Need-wide-requires

@@ -1,9 +1,9 @@
 use mathlib.Core.Path.{refl}
 use Rattle.inner.proofs.Codes.{sound-form}
-use Rattle.inner.proofs.Falls.{logout-out, logout-done}
+use Rattle.taking.proofs.Falls.{logout-out, logout-done}
 use borrow.Author.Needs.{needs}
-use Rattle.inner.proofs.logout.Statement.{statement}
-use Rattle.inner.proofs.logout.Tie as tie
+use Rattle.taking.proofs.logout.Statement.{statement}
+use Rattle.taking.proofs.logout.Tie as tie
 
 -- src/lib.rt:263:9
 refused-requires : tie.Need-refused-requires

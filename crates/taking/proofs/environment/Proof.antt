@@ -7,11 +7,11 @@ use borrow.Author.Tests.{le-ltb, lt-leb}
 use Rattle.model.specs.Lists.{isBit}
 use Rattle.model.specs.Records.{withFact}
 use Rattle.model.specs.Layout.{decode, encode}
 use Rattle.inner.proofs.Codes.{sound-form, sound-range, out-of-range}
-use Rattle.inner.proofs.Falls.{encoded-formed, encoded-in-range, fallen-after, fact-set-fits, environment-out, environment-done}
+use Rattle.taking.proofs.Falls.{encoded-formed, encoded-in-range, fallen-after, fact-set-fits, environment-out, environment-done}
 use borrow.Author.Needs.{needs}
-use Rattle.inner.proofs.environment.Statement.{statement}
-use Rattle.inner.proofs.environment.Tie as tie
+use Rattle.taking.proofs.environment.Statement.{statement}
+use Rattle.taking.proofs.environment.Tie as tie
 
 refused-requires : tie.Need-refused-requires
 refused-requires c κs = search needs

@@ -11,7 +11,7 @@ use borrow.Author.Tests.{le-ltb}
 use Rattle.model.specs.Lists.{any, every, allOverEarlier, without, firstPlace, isBit}
 use Rattle.model.specs.Limits.{facts}
 use Rattle.model.specs.Records.{Policy, State, worldOf, withRows, withCertificates, withFact}
-use Rattle.model.specs.Layout.{policyOf, decode, encode, certificateCount, kindFrom}
+use Rattle.model.specs.Layout.{policyOf, decode, encode, certificateCount}
 use Rattle.model.specs.Conditions.{kindNumbered, supported}
 use Rattle.model.specs.Left.{left}
 use Rattle.model.specs.Sound.{sameCertificate, certificateClauses, certificateSound, wellFormed}
@@ -26,14 +26,14 @@ use Rattle.model.proofs.Parts.{without-none}
 use Rattle.model.proofs.Numbers.{decode-encode, encode-formed, sound-decode}
 use Rattle.model.proofs.Kept.{sound-certificates, fact-fits}
 use Rattle.table.specs.Entries.{worldAt, without-rights}
-use Rattle.table.proofs.Entries.{length-entries}
 use Rattle.table.proofs.Worlds.{supported-same}
 use Rattle.index.specs.Indexed.{InRange}
 use Rattle.fall.specs.Changes.{Left}
 use Rattle.fall.proofs.Form.{formed, sized}
-use Rattle.inner.specs.Lent.{lent, Answers, Fallen, fallenRows}
+use Rattle.inner.specs.Lent.{lent, Answers}
 use Rattle.inner.proofs.First.{found-any, not-found}
-use Rattle.inner.proofs.Codes.{own-refuses, own-accepts, out-of-range, in-range, found, certificate-length}
+use Rattle.inner.proofs.Codes.{own-refuses, own-accepts, out-of-range, in-range, found, certificate-length, some-kind}
+use Rattle.taking.specs.Fallen.{Fallen, fallenRows}
 
 -- ── a change, and the fall after it ──
 
@@ -121,16 +121,6 @@ without-first p c earlier (x ∷ l) t a = go (sameCertificate c x) refl a (λ v.
 same-fall : (rules kinds rights : List ℕ) (v : State) → fallenRows rules kinds v ≡ left (supported (worldOf (policyOf (lent rules kinds rights)) v)) (v .rows)
 unfolding policyOf
 same-fall rules kinds rights v = λ i. left (supported-same (policyOf (without-rights rules kinds)) (policyOf (lent rules kinds rights)) v refl refl i) (v .rows)
-
-kind-count : (rules kinds rights : List ℕ) → length (policyOf (lent rules kinds rights) .kinds) ≡ length kinds / 7
-unfolding policyOf
-kind-count rules kinds rights = length-entries kindFrom 7 kinds (length kinds / 7)
-
-pub no-kind : (rules kinds rights : List ℕ) (k : ℕ) → length kinds / 7 ≤ k → hasRow (policyOf (lent rules kinds rights)) k ≡ false
-no-kind rules kinds rights k l = le-ltb k (length (policyOf (lent rules kinds rights) .kinds)) (omega (arith, kind-count rules kinds rights))
-
-pub some-kind : (rules kinds rights : List ℕ) (k : ℕ) → k < length kinds / 7 → T (hasRow (policyOf (lent rules kinds rights)) k)
-some-kind rules kinds rights k l = lt→ltb k (length (policyOf (lent rules kinds rights) .kinds)) (omega (arith, kind-count rules kinds rights))
 
 module _ (rules kinds rights s : List ℕ) (h : Sound (lent rules kinds rights) s) where
   -- the certificate c, found at j, goes and the rows fall: the numbers are the effect's

@@ -6,10 +6,10 @@ use Rattle.model.specs.Layout.{decode}
 use Rattle.model.proofs.Tests.{of-true}
 use Rattle.model.specs.Sound.{wellFormed}
 use Rattle.model.proofs.Numbers.{decode-fits}
-use Rattle.inner.proofs.Falls.{encoded-formed, encoded-in-range, one-less-member, fallen-after, one-less-fits}
+use Rattle.taking.proofs.Falls.{encoded-formed, encoded-in-range, one-less-member, fallen-after, one-less-fits}
 use borrow.Author.Needs.{needs}
-use Rattle.inner.proofs.take_certificate.Statement.{statement}
-use Rattle.inner.proofs.take_certificate.Tie as tie
+use Rattle.taking.proofs.take_certificate.Statement.{statement}
+use Rattle.taking.proofs.take_certificate.Tie as tie
 
 remove-certificate-requires : tie.Need-remove-certificate-requires
 remove-certificate-requires c κs = search needs

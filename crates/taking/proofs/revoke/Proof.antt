@@ -4,12 +4,12 @@ use native.Mathlib.Omega.{arith}
 use borrow.Author.Tests.{le-ltb, not-true, not-false}
 use Rattle.model.specs.Layout.{policyOf}
 use Rattle.model.specs.Calls.{isUser, hasRow}
 use Rattle.inner.specs.Lent.{lent}
-use Rattle.inner.proofs.Codes.{sound-form, sound-range, sound-sized, out-of-range}
-use Rattle.inner.proofs.Falls.{no-kind, revoke-out, revoke-none, revoke-forbidden, revoke-done}
+use Rattle.inner.proofs.Codes.{sound-form, sound-range, sound-sized, out-of-range, no-kind}
+use Rattle.taking.proofs.Falls.{revoke-out, revoke-none, revoke-forbidden, revoke-done}
 use borrow.Author.Needs.{needs}
-use Rattle.inner.proofs.revoke.Statement.{statement}
-use Rattle.inner.proofs.revoke.Tie as tie
+use Rattle.taking.proofs.revoke.Statement.{statement}
+use Rattle.taking.proofs.revoke.Tie as tie
 
 refused-requires : tie.Need-refused-requires
 refused-requires c κs = search needs

@@ -1,0 +1,167 @@
+// The calls that may take something away (a certificate, a fact, a user's rows) and what falls with it, on sound tables, for code that
+// can show that they are sound. Each equals the model's call.
+ghost use mathlib.Core.Path.{_≡_};
+ghost use mathlib.Core.Bool.{true};
+ghost use mathlib.Core.List.{[], _++_};
+ghost use Prim.Native.Nat.{suc, _<_};
+ghost use lib.ListN.{take, drop};
+ghost use Rattle.model.specs.Records.{withCertificates};
+ghost use Rattle.model.specs.Layout.{decode, policyOf, certificateCount};
+ghost use Rattle.model.specs.Conditions.{kindNumbered};
+ghost use Rattle.model.specs.Sound.{wellFormed};
+ghost use Rattle.model.specs.Calls.{revoke as revokeCall, withdraw as withdrawCall, environment as environmentCall, logout as logoutCall, mayRevoke};
+ghost use Rattle.model.specs.Words.{Sound};
+ghost use Rattle.table.specs.Entries.{without-rights, Sized};
+ghost use Rattle.index.specs.Indexed.{InRange};
+ghost use Rattle.inner.specs.Lent.{lent, Answers};
+ghost use Rattle.taking.specs.Fallen.{Fallen};
+use model::Answer;
+use model::Certificate;
+
+const USERS: u16 = 4096;
+
+const FACTS: u16 = 64;
+
+const ROW_COUNT: usize = 64;
+
+const CERTIFICATE_COUNT: usize = 833;
+
+const KIND_WIDTH: usize = 7;
+
+// Certificate j goes, and the rows that lose their support fall. Returns how many rows were lost.
+fn take_certificate(rules: &[u16], kinds: &[u16], state: &mut [u16], j: usize) -> u16
+    requires { ⌜ (wellFormed (now state) ≡ true) × InRange (now state) × (j < certificateCount (now state)) ⌝ }
+    ensures { λ r. ⌜ Fallen (now (rules .entry)) (now (kinds .entry)) (withCertificates (decode (now (state .entry))) (take j (decode (now (state .entry)) .certificates) ++ drop (suc j) (decode (now (state .entry)) .certificates))) (now (state .exit)) r ⌝ }
+{
+    change::remove_certificate(state, j);
+    fall::fall(rules, kinds, state)
+}
+
+// Mode and caller allow the certificate's revocation.
+fn may_revoke(kinds: &[u16], state: &[u16], caller: u16, kind: u16, appointer: u16) -> bool
+    requires { ⌜ Sized (now state) ⌝ }
+    ensures { λ r. ⌜ r ≡ mayRevoke (decode (now (state .entry)) .rows) (kindNumbered (policyOf (without-rights [] (now (kinds .entry)))) kind) caller appointer ⌝ }
+{
+    let row = table::kind_numbered(kinds, table::wide(kind));
+    let mode = row.mode;
+    if mode == 0 {
+        return caller == appointer;
+    }
+    if mode == 1 {
+        let k = table::wide(state[ROW_COUNT]);
+        return table::is_active(state, k, caller, row.appointer);
+    }
+    false
+}
+
+pub fn revoke(
+    rules: &[u16],
+    kinds: &[u16],
+    rights: &[u16],
+    state: &mut [u16],
+    caller: u16,
+    appointee: u16,
+    kind: u16,
+    appointer: u16,
+) -> Answer
+    requires { ⌜ Sound (lent (now rules) (now kinds) (now rights)) (now state) ⌝ }
+    ensures { λ r. ⌜ Answers (lent (now (rules .entry)) (now (kinds .entry)) (now (rights .entry))) (now (state .entry)) (revokeCall caller appointee kind appointer) r (now (state .exit)) ⌝ }
+{
+    if USERS <= caller {
+        return inner::refused(3);
+    }
+    if USERS <= appointee {
+        return inner::refused(3);
+    }
+    if kinds.len() / KIND_WIDTH <= table::wide(kind) {
+        return inner::refused(3);
+    }
+    if USERS <= appointer {
+        return inner::refused(3);
+    }
+    let j = inner::find_certificate(
+        state,
+        Certificate {
+            appointee,
+            kind,
+            appointer,
+        },
+    );
+    if table::wide(state[CERTIFICATE_COUNT]) <= j {
+        return inner::refused(9);
+    }
+    if !may_revoke(kinds, state, caller, kind, appointer) {
+        return inner::refused(10);
+    }
+    let second = take_certificate(rules, kinds, state, j);
+    Answer { code: 0, second }
+}
+
+pub fn withdraw(
+    rules: &[u16],
+    kinds: &[u16],
+    rights: &[u16],
+    state: &mut [u16],
+    appointee: u16,
+    kind: u16,
+    appointer: u16,
+) -> Answer
+    requires { ⌜ Sound (lent (now rules) (now kinds) (now rights)) (now state) ⌝ }
+    ensures { λ r. ⌜ Answers (lent (now (rules .entry)) (now (kinds .entry)) (now (rights .entry))) (now (state .entry)) (withdrawCall appointee kind appointer) r (now (state .exit)) ⌝ }
+{
+    if USERS <= appointee {
+        return inner::refused(3);
+    }
+    if kinds.len() / KIND_WIDTH <= table::wide(kind) {
+        return inner::refused(3);
+    }
+    if USERS <= appointer {
+        return inner::refused(3);
+    }
+    let j = inner::find_certificate(
+        state,
+        Certificate {
+            appointee,
+            kind,
+            appointer,
+        },
+    );
+    if table::wide(state[CERTIFICATE_COUNT]) <= j {
+        return inner::refused(9);
+    }
+    let second = take_certificate(rules, kinds, state, j);
+    Answer { code: 0, second }
+}
+
+pub fn environment(
+    rules: &[u16],
+    kinds: &[u16],
+    rights: &[u16],
+    state: &mut [u16],
+    fact: u16,
+    value: u16,
+) -> Answer
+    requires { ⌜ Sound (lent (now rules) (now kinds) (now rights)) (now state) ⌝ }
+    ensures { λ r. ⌜ Answers (lent (now (rules .entry)) (now (kinds .entry)) (now (rights .entry))) (now (state .entry)) (environmentCall fact value) r (now (state .exit)) ⌝ }
+{
+    if FACTS <= fact {
+        return inner::refused(3);
+    }
+    if 2 <= value {
+        return inner::refused(3);
+    }
+    change::set_fact(state, table::wide(fact), value);
+    let second = fall::fall(rules, kinds, state);
+    Answer { code: 0, second }
+}
+
+pub fn logout(rules: &[u16], kinds: &[u16], rights: &[u16], state: &mut [u16], user: u16) -> Answer
+    requires { ⌜ Sound (lent (now rules) (now kinds) (now rights)) (now state) ⌝ }
+    ensures { λ r. ⌜ Answers (lent (now (rules .entry)) (now (kinds .entry)) (now (rights .entry))) (now (state .entry)) (logoutCall user) r (now (state .exit)) ⌝ }
+{
+    if USERS <= user {
+        return inner::refused(3);
+    }
+    let second = fall::drop_user(state, user);
+    Answer { code: 0, second }
+}
