@@ -16,7 +16,6 @@ returns c = unsound (lent (c .before .before .before .before .before .before .be
 chain-requires : tie.Need-chain-requires
 chain-requires c κs = judged-sound (lent (c .before .before .before .before .before .before .before .before .args .rules .now) (c .before .before .before .before .before .before .before .before .args .kinds .now) (c .before .before .before .before .before .before .before .before .args .rights .now)) (c .before .before .before .before .before .before .before .before .args .state .now) _ (c .before .if1 .left) (c .before .before .judge .ensures)
 
--- src/lib.rt:177:1
 same-length : tie.Need-same-length
 same-length c = search needs
 

@@ -7,15 +7,12 @@ use Rattle.calls.proofs.fresh.Tie as tie
 returns : tie.Need-returns
 returns c = fresh-length (c .before .before .args .state .now) _ refl refl (c .if1 .taken)
 
--- src/lib.rt:31:5
 fresh-requires : tie.Need-fresh-requires
 fresh-requires c κs = search needs
 
--- src/lib.rt:25:1
 same-length : tie.Need-same-length
 same-length c = search needs
 
--- src/lib.rt:25:1
 returns-2 : tie.Need-returns-2
 returns-2 c = search needs
 

@@ -7,7 +7,6 @@ use borrow.Author.Needs.{needs}
 use Rattle.calls.proofs.invoke.Statement.{statement}
 use Rattle.calls.proofs.invoke.Tie as tie
 
--- src/lib.rt:98:9
 judge-requires : tie.Need-judge-requires
 judge-requires c κs = search needs
 

@@ -5,76 +5,60 @@ use borrow.Author.Needs.{needs}
 use Rattle.change.proofs.append.Statement.{statement}
 use Rattle.change.proofs.append.Tie as tie
 
--- src/lib.rt:28:25
 mul-wide : tie.Need-mul-wide
 mul-wide c = search needs
 
--- src/lib.rt:28:25
 slice-read-wide : tie.Need-slice-read-wide
 slice-read-wide c = search needs
 
--- src/lib.rt:28:9
 wide-requires : tie.Need-wide-requires
 wide-requires c κs = search needs
 
--- src/lib.rt:29:13
 mul-b : tie.Need-mul-b
 mul-b c = search needs
 
--- src/lib.rt:29:13
 add-b : tie.Need-add-b
 add-b c = search needs
 
--- src/lib.rt:30:11
 add-state : tie.Need-add-state
 add-state c = search needs
 
--- src/lib.rt:30:5
 mul-state : tie.Need-mul-state
 mul-state c = search needs
 
--- src/lib.rt:30:5
 slice-write-state : tie.Need-slice-write-state
 slice-write-state c = search needs
 
--- src/lib.rt:31:11
 add-state-2 : tie.Need-add-state-2
 add-state-2 c = search needs
 
--- src/lib.rt:31:5
 mul-state-2 : tie.Need-mul-state-2
 mul-state-2 c = search needs
 
 slice-write-state-2 : tie.Need-slice-write-state-2
 slice-write-state-2 c = simp length-set (omega (arith, c .wide .ensures))
 
--- src/lib.rt:32:11
 add-state-3 : tie.Need-add-state-3
 add-state-3 c = search needs
 
--- src/lib.rt:32:5
 mul-state-3 : tie.Need-mul-state-3
 mul-state-3 c = search needs
 
 slice-write-state-3 : tie.Need-slice-write-state-3
 slice-write-state-3 c = simp length-set (omega (arith, c .wide .ensures))
 
--- src/lib.rt:33:18
 add-state-4 : tie.Need-add-state-4
 add-state-4 c = search needs
 
--- src/lib.rt:33:17
 cast-state : tie.Need-cast-state
 cast-state c = search needs
 
--- src/lib.rt:33:5
 mul-state-4 : tie.Need-mul-state-4
 mul-state-4 c = search needs
 
 slice-write-state-4 : tie.Need-slice-write-state-4
 slice-write-state-4 c = simp length-set (omega (arith, c .wide .ensures))
 
--- src/lib.rt:24:1
 same-length : tie.Need-same-length
 same-length c = search needs
 

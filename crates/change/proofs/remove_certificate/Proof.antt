@@ -12,11 +12,9 @@ use Rattle.change.proofs.remove_certificate.Tie as tie
 slice-read-wide : tie.Need-slice-read-wide
 slice-read-wide c = omega (arith, formed (c .before .before .args .state .now) (c .before .before .pre .0) .size)
 
--- src/lib.rt:57:9
 wide-requires : tie.Need-wide-requires
 wide-requires c κs = search needs
 
--- src/lib.rt:58:16
 sub-last : tie.Need-sub-last
 sub-last c = search needs
 
@@ -35,7 +33,6 @@ add-e c = omega (arith, formed (c .before .before .before .args .state .now) (c 
 add-move-down : tie.Need-add-move-down
 add-move-down c = omega (arith, formed (c .before .before .before .before .args .state .now) (c .before .before .before .before .pre .0) .size, formed (c .before .before .before .before .args .state .now) (c .before .before .before .before .pre .0) .certificates, c .before .wide .ensures)
 
--- src/lib.rt:61:54
 sub-move-down : tie.Need-sub-move-down
 sub-move-down c = search needs
 

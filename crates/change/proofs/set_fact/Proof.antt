@@ -5,14 +5,12 @@ use borrow.Author.Needs.{needs}
 use Rattle.change.proofs.set_fact.Statement.{statement}
 use Rattle.change.proofs.set_fact.Tie as tie
 
--- src/lib.rt:71:5
 mul-state : tie.Need-mul-state
 mul-state c = search needs
 
 slice-write-state : tie.Need-slice-write-state
 slice-write-state c = omega (arith, formed (c .args .state .now) (c .pre .0) .size)
 
--- src/lib.rt:67:1
 same-length : tie.Need-same-length
 same-length c = search needs
 

@@ -12,7 +12,6 @@ returns c = (malformed-answers (lent (c .before .before .before .before .before 
 call-requires : tie.Need-call-requires
 call-requires c κs = (standing-sound (lent (c .before .before .before .before .before .before .args .rules .now) (c .before .before .before .before .before .before .args .kinds .now) (c .before .before .before .before .before .before .args .rights .now)) (c .before .before .before .before .before .before .args .state .now) (c .before .before .before .before .before .before .args .judged) (c .before .before .before .before .before .before .pre .0) (not-false _ (c .before .if1 .left)), c .before .before .before .before .before .before .pre .1, c .before .before .before .before .before .before .pre .2)
 
--- src/lib.rt:36:1
 same-length : tie.Need-same-length
 same-length c = search needs
 

@@ -6,43 +6,33 @@ use borrow.Author.Needs.{needs}
 use Rattle.fall.proofs.close.Statement.{statement}
 use Rattle.fall.proofs.close.Tie as tie
 
--- src/lib.rt:90:17
 mul-zero : tie.Need-mul-zero
 mul-zero c = search needs
 
--- src/lib.rt:90:17
 add-zero : tie.Need-add-zero
 add-zero c = search needs
 
--- src/lib.rt:90:39
 mul-zero-2 : tie.Need-mul-zero-2
 mul-zero-2 c = search needs
 
--- src/lib.rt:90:39
 add-zero-2 : tie.Need-add-zero-2
 add-zero-2 c = search needs
 
--- src/lib.rt:90:5
 zero-requires : tie.Need-zero-requires
 zero-requires c κs = search needs
 
--- src/lib.rt:91:24
 cast-state : tie.Need-cast-state
 cast-state c = search needs
 
--- src/lib.rt:91:5
 slice-write-state : tie.Need-slice-write-state
 slice-write-state c = search needs
 
--- src/lib.rt:92:6
 sub-result : tie.Need-sub-result
 sub-result c = search needs
 
--- src/lib.rt:92:5
 cast-result : tie.Need-cast-result
 cast-result c = search needs
 
--- src/lib.rt:86:1
 same-length : tie.Need-same-length
 same-length c = search needs
 

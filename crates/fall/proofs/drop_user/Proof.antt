@@ -27,7 +27,6 @@ abbrev μ-loop : tie.MeasureT-loop
 slice-read-wide : tie.Need-slice-read-wide Inv-loop μ-loop
 slice-read-wide c = omega (arith, formed (c .before .before .args .state .now) (c .before .before .pre) .size)
 
--- src/lib.rt:115:9
 wide-requires : tie.Need-wide-requires Inv-loop μ-loop
 wide-requires c κs = search needs
 
@@ -40,11 +39,9 @@ judge-user-requires c κs =
     let e : c .before .before .loop .i < 256 = omega (arith, c .before .before .before .wide .ensures, f .rows) in
     (swept-sized _ (c .before .before .before .before .before .before .args .state .now) (c .before .before .loop .state) (c .before .before .loop .i) (c .before .before .loop .w) (sized (c .before .before .before .before .before .before .args .state .now) f) (omega arith) (c .before .before .loop .inv .1), c .before .before .loop .inv .1 .within, e)
 
--- src/lib.rt:120:9
 add-i : tie.Need-add-i Inv-loop μ-loop
 add-i c = search needs
 
--- src/lib.rt:118:5
 loop-less : tie.Need-loop-less Inv-loop μ-loop
 loop-less c = search needs
 

@@ -14,50 +14,39 @@ use borrow.Author.Needs.{needs}
 use Rattle.fall.proofs.fall.Statement.{statement}
 use Rattle.fall.proofs.fall.Tie as tie
 
--- src/lib.rt:132:25
 slice-read-wide : tie.Need-slice-read-wide
 slice-read-wide c = search needs
 
--- src/lib.rt:132:9
 wide-requires : tie.Need-wide-requires
 wide-requires c κs = search needs
 
--- src/lib.rt:134:32
 slice-aggregate-number-users : tie.Need-slice-aggregate-number-users
 slice-aggregate-number-users c = search needs
 
--- src/lib.rt:134:5
 number-users-requires : tie.Need-number-users-requires
 number-users-requires c κs = search needs
 
--- src/lib.rt:136:38
 slice-aggregate-enter-certificates : tie.Need-slice-aggregate-enter-certificates
 slice-aggregate-enter-certificates c = search needs
 
--- src/lib.rt:136:48
 slice-aggregate-enter-certificates-2 : tie.Need-slice-aggregate-enter-certificates-2
 slice-aggregate-enter-certificates-2 c = search needs
 
 enter-certificates-requires : tie.Need-enter-certificates-requires
 enter-certificates-requires c κs = (c .before .before .before .before .before .before .before .before .before .before .before .before .pre .1, indexed-state (c .before .before .before .before .before .before .before .before .before .before .before .before .args .state .now) _ (c .before .before .before .before .number-users .ensures))
 
--- src/lib.rt:137:40
 slice-aggregate-sweep : tie.Need-slice-aggregate-sweep
 slice-aggregate-sweep c = search needs
 
--- src/lib.rt:137:50
 slice-aggregate-sweep-2 : tie.Need-slice-aggregate-sweep-2
 slice-aggregate-sweep-2 c = search needs
 
--- src/lib.rt:137:9
 sweep-requires : tie.Need-sweep-requires
 sweep-requires c κs = search needs
 
--- src/lib.rt:138:5
 close-requires : tie.Need-close-requires
 close-requires c κs = search needs
 
--- src/lib.rt:128:1
 same-length : tie.Need-same-length
 same-length c = search needs
 

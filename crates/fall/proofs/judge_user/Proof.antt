@@ -9,19 +9,15 @@ use borrow.Author.Needs.{needs}
 use Rattle.fall.proofs.judge_user.Statement.{statement}
 use Rattle.fall.proofs.judge_user.Tie as tie
 
--- src/lib.rt:77:9
 row-at-requires : tie.Need-row-at-requires
 row-at-requires c κs = search needs
 
--- src/lib.rt:79:9
 keep-row-requires : tie.Need-keep-row-requires
 keep-row-requires c κs = search needs
 
--- src/lib.rt:80:16
 add-result : tie.Need-add-result
 add-result c = search needs
 
--- src/lib.rt:80:9
 same-length : tie.Need-same-length
 same-length c = search needs
 
@@ -30,7 +26,6 @@ returns c =
     let e : not (ofUser (c .before .before .before .before .before .before .before .before .before .args .user) (rowAt (c .before .before .before .before .before .before .before .before .before .args .state .now) (c .before .before .before .before .before .before .before .before .before .args .i))) ≡ true = ap (λ (x : Row). not (ofUser (c .before .before .before .before .before .before .before .before .before .args .user) x)) (sym (c .before .before .before .before .before .before .row-at .ensures)) ∙ ap not (ne-eqb _ _ (c .before .before .before .before .if1 .taken)) in
     record { stood = λ q. (c .before .before .keep-row .ensures, refl); fell = λ q. absurd (true≢false (sym e ∙ q)) }
 
--- src/lib.rt:73:1
 same-length-2 : tie.Need-same-length-2
 same-length-2 c = search needs
 

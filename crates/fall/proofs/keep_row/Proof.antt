@@ -8,31 +8,24 @@ use borrow.Author.Needs.{needs}
 use Rattle.fall.proofs.keep_row.Statement.{statement}
 use Rattle.fall.proofs.keep_row.Tie as tie
 
--- src/lib.rt:55:26
 mul-move-down : tie.Need-mul-move-down
 mul-move-down c = search needs
 
--- src/lib.rt:55:26
 add-move-down : tie.Need-add-move-down
 add-move-down c = search needs
 
--- src/lib.rt:55:48
 mul-move-down-2 : tie.Need-mul-move-down-2
 mul-move-down-2 c = search needs
 
--- src/lib.rt:55:48
 add-move-down-2 : tie.Need-add-move-down-2
 add-move-down-2 c = search needs
 
--- src/lib.rt:55:9
 move-down-requires : tie.Need-move-down-requires
 move-down-requires c κs = search needs
 
--- src/lib.rt:50:1
 same-length : tie.Need-same-length
 same-length c = search needs
 
--- src/lib.rt:50:1
 returns : tie.Need-returns
 returns c = search needs
 

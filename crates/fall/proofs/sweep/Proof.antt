@@ -36,8 +36,7 @@ judge-requires : tie.Need-judge-requires Inv-loop μ-loop
 judge-requires c κs =
     let h : c .before .before .before .loop .i < 256 = omega (arith, c .before .before .before .before .before .before .before .before .before .pre .3, c .before .before .before .before .before .before .before .before .before .pre .0 .sized .rows) in
     let j : c .before .before .before .loop .i < rowCount (c .before .before .before .before .before .before .before .before .before .args .state .now) = omega (arith, c .before .before .before .before .before .before .before .before .before .pre .3) in
-    let e : rowAt (c .before .before .before .loop .state) (c .before .before .before .loop .i) ≡ rowAt (c .before .before .before .before .before .before .before .before .before .args .state .now) (c .before .before .before .loop .i) = swept-row _ (c .before .before .before .before .before .before .before .before .before .args .state .now) (c .before .before .before .loop .state) (c .before .before .before .loop .i) (c .before .before .before .loop .w) h (c .before .before .before .loop .inv .2) in
-    (
+    let e : rowAt (c .before .before .before .loop .state) (c .before .before .before .loop .i) ≡ rowAt (c .before .before .before .before .before .before .before .before .before .args .state .now) (c .before .before .before .loop .i) = swept-row _ (c .before .before .before .before .before .before .before .before .before .args .state .now) (c .before .before .before .loop .state) (c .before .before .before .loop .i) (c .before .before .before .loop .w) h (c .before .before .before .loop .inv .2) in (
       swept-sized _ (c .before .before .before .before .before .before .before .before .before .args .state .now) (c .before .before .before .loop .state) (c .before .before .before .loop .i) (c .before .before .before .loop .w) (c .before .before .before .before .before .before .before .before .before .pre .0 .sized) (omega arith) (c .before .before .before .loop .inv .2),
       c .before .before .before .loop .inv .2 .within,
       h,
@@ -55,12 +54,11 @@ loop-less c = search needs
 
 loop-again : tie.Need-loop-again Inv-loop μ-loop
 loop-again c =
-    let h : c .before .before .before .before .before .before .before .before .loop .i < 256 = omega (arith, c .before .before .before .before .before .before .before .before .before .before .before .before .before .before .pre .3, c .before .before .before .before .before .before .before .before .before .before .before .before .before .before .pre .0 .sized .rows) in
-    (
+    let h : c .before .before .before .before .before .before .before .before .loop .i < 256 = omega (arith, c .before .before .before .before .before .before .before .before .before .before .before .before .before .before .pre .3, c .before .before .before .before .before .before .before .before .before .before .before .before .before .before .pre .0 .sized .rows) in (
       search needs,
       search needs,
       swept-more (ok (c .before .before .before .before .before .before .before .before .before .before .before .before .before .before .args .rules .now) (c .before .before .before .before .before .before .before .before .before .before .before .before .before .before .args .kinds .now) (c .before .before .before .before .before .before .before .before .before .before .before .before .before .before .args .state .now)) (c .before .before .before .before .before .before .before .before .before .before .before .before .before .before .args .state .now) (c .before .before .before .before .before .before .before .before .loop .state) _ (c .before .before .before .before .before .before .before .before .loop .i) (c .before .before .before .before .before .before .before .before .loop .w) (c .before .before .before .before .judge .result) h (c .before .before .before .before .before .before .before .before .loop .inv .2)
-      (subst (λ (x : World). Judged (supported x (firstRows (c .before .before .before .before .before .before .before .before .loop .state) (c .before .before .before .before .before .before .before .before .loop .w)) (rowAt (c .before .before .before .before .before .before .before .before .loop .state) (c .before .before .before .before .before .before .before .before .loop .i))) (c .before .before .before .before .before .before .before .before .loop .state) (c .before .before .before .before .judge .last .1 .1 .0) (c .before .before .before .before .before .before .before .before .loop .w) (c .before .before .before .before .before .before .before .before .loop .i) (c .before .before .before .before .judge .result)) (swept-world (c .before .before .before .before .before .before .before .before .before .before .before .before .before .before .args .rules .now) (c .before .before .before .before .before .before .before .before .before .before .before .before .before .before .args .kinds .now) _ (c .before .before .before .before .before .before .before .before .before .before .before .before .before .before .args .state .now) (c .before .before .before .before .before .before .before .before .loop .state) (c .before .before .before .before .before .before .before .before .loop .i) (c .before .before .before .before .before .before .before .before .loop .w) (omega arith) (c .before .before .before .before .before .before .before .before .loop .inv .2)) (c .before .before .before .before .judge .ensures .0)),
+          (subst (λ (x : World). Judged (supported x (firstRows (c .before .before .before .before .before .before .before .before .loop .state) (c .before .before .before .before .before .before .before .before .loop .w)) (rowAt (c .before .before .before .before .before .before .before .before .loop .state) (c .before .before .before .before .before .before .before .before .loop .i))) (c .before .before .before .before .before .before .before .before .loop .state) (c .before .before .before .before .judge .last .1 .1 .0) (c .before .before .before .before .before .before .before .before .loop .w) (c .before .before .before .before .before .before .before .before .loop .i) (c .before .before .before .before .judge .result)) (swept-world (c .before .before .before .before .before .before .before .before .before .before .before .before .before .before .args .rules .now) (c .before .before .before .before .before .before .before .before .before .before .before .before .before .before .args .kinds .now) _ (c .before .before .before .before .before .before .before .before .before .before .before .before .before .before .args .state .now) (c .before .before .before .before .before .before .before .before .loop .state) (c .before .before .before .before .before .before .before .before .loop .i) (c .before .before .before .before .before .before .before .before .loop .w) (omega arith) (c .before .before .before .before .before .before .before .before .loop .inv .2)) (c .before .before .before .before .judge .ensures .0)),
       subst (λ (l : List Certificate). Indexed (c .before .before .before .before .before .before .before .before .before .before .before .before .before .before .args .numbers .now) (c .before .before .before .before .judge .last .1 .1 .1 .1 .0) (firstRows (c .before .before .before .before .judge .last .1 .1 .0) (c .before .before .before .before .judge .result)) l) (swept-certificates _ (c .before .before .before .before .before .before .before .before .before .before .before .before .before .before .args .state .now) (c .before .before .before .before .before .before .before .before .loop .state) (c .before .before .before .before .before .before .before .before .loop .i) (c .before .before .before .before .before .before .before .before .loop .w) (omega arith) (c .before .before .before .before .before .before .before .before .loop .inv .2)) (c .before .before .before .before .judge .ensures .1),
     )
 

@@ -23,11 +23,9 @@ mul-s c = omega (arith, c .before .loop .inv .2 .size)
 slice-write-s : tie.Need-slice-write-s Inv-loop μ-loop
 slice-write-s c = omega (arith, c .before .loop .inv .2 .size)
 
--- src/lib.rt:45:9
 add-p : tie.Need-add-p Inv-loop μ-loop
 add-p c = search needs
 
--- src/lib.rt:43:5
 loop-less : tie.Need-loop-less Inv-loop μ-loop
 loop-less c = search needs
 

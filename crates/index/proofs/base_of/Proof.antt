@@ -6,19 +6,15 @@ use borrow.Author.Needs.{needs}
 use Rattle.index.proofs.base_of.Statement.{statement}
 use Rattle.index.proofs.base_of.Tie as tie
 
--- src/lib.rt:166:38
 wide-requires : tie.Need-wide-requires
 wide-requires c κs = search needs
 
--- src/lib.rt:166:30
 mul-wide : tie.Need-mul-wide
 mul-wide c = search needs
 
--- src/lib.rt:166:30
 shared-slice-read-wide : tie.Need-shared-slice-read-wide
 shared-slice-read-wide c = search needs
 
--- src/lib.rt:166:9
 wide-requires-2 : tie.Need-wide-requires-2
 wide-requires-2 c κs = search needs
 

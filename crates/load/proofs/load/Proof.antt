@@ -20,11 +20,9 @@ abbrev μ-loop : tie.MeasureT-loop
 loop-holds : tie.Need-loop-holds Inv-loop μ-loop
 loop-holds c = going-starts (c .before .before .before .before .args .text .now) (c .before .before .before .before .args .rules .now) (c .before .before .before .before .args .kinds .now) (c .before .before .before .before .args .rights .now) (c .before .before .before .before .pre .0) (c .before .before .before .before .pre .1) (c .before .before .before .before .pre .2)
 
--- src/lib.rt:152:13
 line-from-requires : tie.Need-line-from-requires Inv-loop μ-loop
 line-from-requires c κs = search needs
 
--- src/lib.rt:153:13
 has-room-requires : tie.Need-has-room-requires Inv-loop μ-loop
 has-room-requires c κs = search needs
 
@@ -46,7 +44,6 @@ take-row-requires c κs = (c .before .before .before .before .before .before .be
 add-taken : tie.Need-add-taken Inv-loop μ-loop
 add-taken c = omega (arith, c .before .before .before .before .before .before .before .before .before .before .before .before .before .before .loop .inv .few)
 
--- src/lib.rt:164:9
 next-from-requires : tie.Need-next-from-requires Inv-loop μ-loop
 next-from-requires c κs = search needs
 

@@ -14,43 +14,33 @@ sub-count c = omega (arith, c .before .before .before .before .before .pre .4)
 mul-append : tie.Need-mul-append
 mul-append c = omega (arith, rules-below (c .before .before .before .before .before .before .before .args .counts) (c .before .before .before .before .before .before .before .args .line) (c .before .before .before .before .before .before .before .pre .3) (c .before .if1 .taken))
 
--- src/lib.rt:84:17
 array-read-t19 : tie.Need-array-read-t19
 array-read-t19 c = search needs
 
--- src/lib.rt:86:17
 array-read-t22 : tie.Need-array-read-t22
 array-read-t22 c = search needs
 
--- src/lib.rt:87:17
 array-read-t25 : tie.Need-array-read-t25
 array-read-t25 c = search needs
 
--- src/lib.rt:88:17
 array-read-t28 : tie.Need-array-read-t28
 array-read-t28 c = search needs
 
--- src/lib.rt:89:17
 array-read-t31 : tie.Need-array-read-t31
 array-read-t31 c = search needs
 
--- src/lib.rt:90:17
 array-read-t34 : tie.Need-array-read-t34
 array-read-t34 c = search needs
 
--- src/lib.rt:91:17
 array-read-t37 : tie.Need-array-read-t37
 array-read-t37 c = search needs
 
--- src/lib.rt:92:17
 array-read-t40 : tie.Need-array-read-t40
 array-read-t40 c = search needs
 
--- src/lib.rt:93:17
 array-read-t43 : tie.Need-array-read-t43
 array-read-t43 c = search needs
 
--- src/lib.rt:94:17
 array-read-t46 : tie.Need-array-read-t46
 array-read-t46 c = search needs
 
@@ -60,7 +50,6 @@ append-requires c κs = (omega (arith, rules-below (c .before .before .before .b
 add-t16 : tie.Need-add-t16
 add-t16 c = omega (arith, rules-below (c .before .before .before .before .before .before .before .before .before .before .args .counts) (c .before .before .before .before .before .before .before .before .before .before .args .line) (c .before .before .before .before .before .before .before .before .before .before .pre .3) (c .before .before .before .before .if1 .taken))
 
--- src/lib.rt:98:9
 same-length : tie.Need-same-length
 same-length c = search needs
 
@@ -70,27 +59,21 @@ returns c = (with-rule (c .before .before .before .before .before .before .befor
 mul-append-2 : tie.Need-mul-append-2
 mul-append-2 c = omega (arith, kinds-below (c .before .before .before .before .before .before .before .before .args .counts) (c .before .before .before .before .before .before .before .before .args .line) (c .before .before .before .before .before .before .before .before .pre .3) (c .before .if2 .taken))
 
--- src/lib.rt:108:14
 array-read-t54 : tie.Need-array-read-t54
 array-read-t54 c = search needs
 
--- src/lib.rt:108:20
 array-read-t57 : tie.Need-array-read-t57
 array-read-t57 c = search needs
 
--- src/lib.rt:108:33
 array-read-t60 : tie.Need-array-read-t60
 array-read-t60 c = search needs
 
--- src/lib.rt:108:39
 array-read-t63 : tie.Need-array-read-t63
 array-read-t63 c = search needs
 
--- src/lib.rt:108:45
 array-read-t66 : tie.Need-array-read-t66
 array-read-t66 c = search needs
 
--- src/lib.rt:108:51
 array-read-t69 : tie.Need-array-read-t69
 array-read-t69 c = search needs
 
@@ -100,7 +83,6 @@ append-requires-2 c κs = (omega (arith, kinds-below (c .before .before .before 
 add-t51 : tie.Need-add-t51
 add-t51 c = omega (arith, kinds-below (c .before .before .before .before .before .before .before .before .before .before .before .args .counts) (c .before .before .before .before .before .before .before .before .before .before .before .args .line) (c .before .before .before .before .before .before .before .before .before .before .before .pre .3) (c .before .before .before .before .if2 .taken))
 
--- src/lib.rt:111:9
 same-length-2 : tie.Need-same-length-2
 same-length-2 c = search needs
 
@@ -110,11 +92,9 @@ returns-2 c = (with-kind (c .before .before .before .before .before .before .bef
 mul-append-3 : tie.Need-mul-append-3
 mul-append-3 c = omega (arith, rights-below (c .before .before .before .before .before .before .before .before .args .counts) (c .before .before .before .before .before .before .before .before .args .line) (c .before .before .before .before .before .before .before .before .pre .3) (is-right (c .before .before .before .before .before .before .before .before .args .counts) (c .before .before .before .before .before .before .before .before .args .line) (c .before .before .before .before .before .before .before .before .pre .3) (c .before .before .if1 .left) (c .before .if2 .left)))
 
--- src/lib.rt:120:10
 array-read-t77 : tie.Need-array-read-t77
 array-read-t77 c = search needs
 
--- src/lib.rt:120:16
 array-read-t80 : tie.Need-array-read-t80
 array-read-t80 c = search needs
 
@@ -124,7 +104,6 @@ append-requires-3 c κs = (omega (arith, rights-below (c .before .before .before
 add-t74 : tie.Need-add-t74
 add-t74 c = omega (arith, rights-below (c .before .before .before .before .before .before .before .before .before .before .before .args .counts) (c .before .before .before .before .before .before .before .before .before .before .before .args .line) (c .before .before .before .before .before .before .before .before .before .before .before .pre .3) (is-right (c .before .before .before .before .before .before .before .before .before .before .before .args .counts) (c .before .before .before .before .before .before .before .before .before .before .before .args .line) (c .before .before .before .before .before .before .before .before .before .before .before .pre .3) (c .before .before .before .before .before .if1 .left) (c .before .before .before .before .if2 .left)))
 
--- src/lib.rt:62:1
 same-length-3 : tie.Need-same-length-3
 same-length-3 c = search needs
 

@@ -19,23 +19,18 @@ abbrev μ-loop : tie.MeasureT-loop
 loop-holds : tie.Need-loop-holds Inv-loop μ-loop
 loop-holds c = (search needs, refl)
 
--- src/lib.rt:36:35
 add-joined : tie.Need-add-joined Inv-loop μ-loop
 add-joined c = search needs
 
--- src/lib.rt:36:27
 mul-joined : tie.Need-mul-joined Inv-loop μ-loop
 mul-joined c = search needs
 
--- src/lib.rt:36:27
 shared-slice-read-joined : tie.Need-shared-slice-read-joined Inv-loop μ-loop
 shared-slice-read-joined c = search needs
 
--- src/lib.rt:37:9
 add-j : tie.Need-add-j Inv-loop μ-loop
 add-j c = search needs
 
--- src/lib.rt:35:5
 loop-less : tie.Need-loop-less Inv-loop μ-loop
 loop-less c = search needs
 

@@ -16,14 +16,12 @@ Inv-loop rules kinds rights text from taken state₀ out₀ judged at₀ n₀ w�
 abbrev μ-loop : tie.MeasureT-loop
 μ-loop rules kinds rights text from taken state₀ out₀ judged at₀ n₀ w₀ state out at n w = length text - at
 
--- src/lib.rt:35:9
 policy-sound-requires : tie.Need-policy-sound-requires Inv-loop μ-loop
 policy-sound-requires c κs = search needs
 
 loop-holds : tie.Need-loop-holds Inv-loop μ-loop
 loop-holds c = (runs-start (lent (c .before .before .before .before .before .before .before .args .rules .now) (c .before .before .before .before .before .before .before .args .kinds .now) (c .before .before .before .before .before .before .before .args .rights .now)) (c .before .before .before .before .before .before .before .args .text .now) (c .before .before .before .before .before .before .before .args .from) (c .before .before .before .before .before .before .before .args .taken) (c .before .before .before .before .before .before .before .args .state .now) (c .policy-sound .result) (c .before .before .before .before .before .before .before .args .out .now) (c .before .before .before .before .before .before .before .pre .0) (c .policy-sound .ensures) (c .before .before .before .before .before .before .before .pre .1) (c .before .before .before .before .before .before .before .pre .2) (c .before .before .before .before .before .before .before .pre .4), refl, refl)
 
--- src/lib.rt:40:13
 line-from-requires : tie.Need-line-from-requires Inv-loop μ-loop
 line-from-requires c κs = search needs
 
@@ -60,7 +58,6 @@ answer-event-requires c κs = (c .before .before .before .before .before .before
 write-answer-requires : tie.Need-write-answer-requires Inv-loop μ-loop
 write-answer-requires c κs = omega (arith, c .before .before .before .before .before .before .before .before .before .before .before .loop .inv .0 .room, c .before .before .before .before .before .before .before .before .before .before .before .loop .inv .0 .fits)
 
--- src/lib.rt:50:9
 next-from-requires : tie.Need-next-from-requires Inv-loop μ-loop
 next-from-requires c κs = search needs
 

@@ -11,26 +11,21 @@ use Rattle.session.proofs.session.Tie as tie
 write-bad-requires : tie.Need-write-bad-requires
 write-bad-requires c κs = (omega arith, omega arith)
 
--- src/lib.rt:68:9
 same-length : tie.Need-same-length
 same-length c = search needs
 
 returns : tie.Need-returns
 returns c = too-long (c .before .before .before .before .before .before .before .args .text .now) _ (c .before .before .write-bad .result) (c .before .before .before .before .before .before .before .args .out .now) (c .before .before .before .before .if1 .taken) (omega arith) (c .before .before .write-bad .ensures)
 
--- src/lib.rt:73:35
 slice-aggregate-load : tie.Need-slice-aggregate-load
 slice-aggregate-load c = search needs
 
--- src/lib.rt:73:47
 slice-aggregate-load-2 : tie.Need-slice-aggregate-load-2
 slice-aggregate-load-2 c = search needs
 
--- src/lib.rt:73:59
 slice-aggregate-load-3 : tie.Need-slice-aggregate-load-3
 slice-aggregate-load-3 c = search needs
 
--- src/lib.rt:73:9
 load-requires : tie.Need-load-requires
 load-requires c κs = search needs
 
@@ -43,14 +38,12 @@ mul-b c = omega (arith, c .before .before .before .before .before .load .ensures
 mul-c : tie.Need-mul-c
 mul-c c = omega (arith, c .before .before .before .before .before .before .load .ensures .rights-room)
 
--- src/lib.rt:79:9
 array-share-prefix-rules : tie.Need-array-share-prefix-rules
 array-share-prefix-rules c = search needs
 
 run-requires : tie.Need-run-requires
 run-requires c κs = (zeros-sound _, c .before .before .before .before .before .before .before .before .before .before .before .load .ensures .in-text, c .before .before .before .before .before .before .before .before .before .before .before .load .ensures .few, omega arith, c .before .before .before .before .before .before .before .before .before .before .before .before .before .before .before .before .before .before .pre)
 
--- src/lib.rt:63:1
 same-length-2 : tie.Need-same-length-2
 same-length-2 c = search needs
 
@@ -60,21 +53,18 @@ returns-2 c = loaded-and-run (c .before .before .before .before .before .before 
 slice-aggregate-run : tie.Need-slice-aggregate-run
 slice-aggregate-run c = sym (length-take-le (c .before .before .before .before .before .before .before .load .result .rules * 11) (c .before .before .before .before .before .before .before .load .last .1 .0) (omega (arith, c .before .before .before .before .before .before .before .load .ensures .rules-room, c .before .before .before .before .before .before .before .load .kept .1 .0)))
 
--- src/lib.rt:80:9
 array-share-prefix-kinds : tie.Need-array-share-prefix-kinds
 array-share-prefix-kinds c = search needs
 
 slice-aggregate-run-2 : tie.Need-slice-aggregate-run-2
 slice-aggregate-run-2 c = sym (length-take-le (c .before .before .before .before .before .before .before .before .load .result .kinds * 7) (c .before .before .before .before .before .before .before .before .load .last .1 .1 .0) (omega (arith, c .before .before .before .before .before .before .before .before .load .ensures .kinds-room, c .before .before .before .before .before .before .before .before .load .kept .1 .1 .0)))
 
--- src/lib.rt:81:9
 array-share-prefix-rights : tie.Need-array-share-prefix-rights
 array-share-prefix-rights c = search needs
 
 slice-aggregate-run-3 : tie.Need-slice-aggregate-run-3
 slice-aggregate-run-3 c = sym (length-take-le (c .before .before .before .before .before .before .before .before .before .load .result .rights * 2) (c .before .before .before .before .before .before .before .before .before .load .last .1 .1 .1 .0) (omega (arith, c .before .before .before .before .before .before .before .before .before .load .ensures .rights-room, c .before .before .before .before .before .before .before .before .before .load .kept .1 .1 .1 .0)))
 
--- src/lib.rt:85:9
 slice-aggregate-run-4 : tie.Need-slice-aggregate-run-4
 slice-aggregate-run-4 c = search needs
 

@@ -30,7 +30,7 @@ returns-2 : tie.Need-returns-2
 unfolding certificateClauses policyOf
 returns-2 c = (
   fails-at (certificateClauses (kindsOnly (c .before .before .before .before .before .before .before .before .args .kinds .now)) (firstCertificates (c .before .before .before .before .before .before .before .before .args .state .now) (c .before .before .before .before .before .before .before .before .args .i))) (c .before .before .before .before .certificate-at .ensures)
-  (later (here (ap (ltb (c .before .before .before .before .certificate-at .result .kind)) (length-entries kindFrom 7 (c .before .before .before .before .before .before .before .before .args .kinds .now) (length (c .before .before .before .before .before .before .before .before .args .kinds .now) / 7)) ∙ le-ltb (c .before .before .before .before .certificate-at .result .kind) (length (c .before .before .before .before .before .before .before .before .args .kinds .now) / 7) (omega arith)))),
+      (later (here (ap (ltb (c .before .before .before .before .certificate-at .result .kind)) (length-entries kindFrom 7 (c .before .before .before .before .before .before .before .before .args .kinds .now) (length (c .before .before .before .before .before .before .before .before .args .kinds .now) / 7)) ∙ le-ltb (c .before .before .before .before .certificate-at .result .kind) (length (c .before .before .before .before .before .before .before .before .args .kinds .now) / 7) (omega arith)))),
   λ q. absurd (false≢true q),
 )
 

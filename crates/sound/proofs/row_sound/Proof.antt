@@ -41,10 +41,9 @@ returns : tie.Need-returns
 unfolding rowClauses
 returns c =
     let known : 0 < getD (c .before .before .before .before .before .before .before .before .before .before .before .args .numbers .now) (c .before .before .before .before .before .row-at .result .user) 0 = subst⁻¹ (λ (r : Row). 0 < getD (c .before .before .before .before .before .before .before .before .before .before .before .args .numbers .now) (r .user) 0) (c .before .before .before .before .before .row-at .ensures) (c .before .before .before .before .before .before .before .before .before .before .before .pre .1 .known (c .before .before .before .before .before .before .before .before .before .before .before .args .i) (c .before .before .before .before .before .before .before .before .before .before .before .pre .3)) in
-    let q : c .before .before .before .before .before .row-at .result .role < 256 = omega (arith, ap (λ (r : Row). r .role) (c .before .before .before .before .before .row-at .ensures), row-in-range (c .before .before .before .before .before .before .before .before .before .before .before .args .state .now) (c .before .before .before .before .before .before .before .before .before .before .before .pre .0) (c .before .before .before .before .before .before .before .before .before .before .before .args .i) (c .before .before .before .before .before .before .before .before .before .before .before .pre .3) .1) in
-    (
+    let q : c .before .before .before .before .before .row-at .result .role < 256 = omega (arith, ap (λ (r : Row). r .role) (c .before .before .before .before .before .row-at .ensures), row-in-range (c .before .before .before .before .before .before .before .before .before .before .before .args .state .now) (c .before .before .before .before .before .before .before .before .before .before .before .pre .0) (c .before .before .before .before .before .before .before .before .before .before .before .args .i) (c .before .before .before .before .before .before .before .before .before .before .before .pre .3) .1) in (
       fails-at (rowClauses (worldAt (c .before .before .before .before .before .before .before .before .before .before .before .args .rules .now) (c .before .before .before .before .before .before .before .before .before .before .before .args .kinds .now) (c .before .before .before .before .before .before .before .before .before .before .before .args .state .now)) (firstRows (c .before .before .before .before .before .before .before .before .before .before .before .args .state .now) (c .before .before .before .before .before .before .before .before .before .before .before .args .i))) (c .before .before .before .before .before .row-at .ensures)
-      (later (later (here (ap not (sym (active-there (c .before .before .before .before .before .before .before .before .before .before .before .args .numbers .now) (c .before .before .before .before .before .before .before .before .before .before .before .args .words .now) (firstRows (c .before .before .before .before .before .before .before .before .before .before .before .args .state .now) (c .before .before .before .before .before .before .before .before .before .before .before .args .i)) (worldAt (c .before .before .before .before .before .before .before .before .before .before .before .args .rules .now) (c .before .before .before .before .before .before .before .before .before .before .before .args .kinds .now) (c .before .before .before .before .before .before .before .before .before .before .before .args .state .now)) (c .before .before .before .before .before .before .before .before .before .before .before .pre .2) (c .before .before .before .before .before .row-at .result .user) (c .before .before .before .before .base-of .result) (c .before .before .before .before .base-of .ensures) known (c .before .before .before .before .before .row-at .result .role) (c .before .before .before .wide .result) q (c .before .before .before .wide .ensures)) ∙ sym (c .before .is-marked .ensures) ∙ c .if1 .taken))))),
+          (later (later (here (ap not (sym (active-there (c .before .before .before .before .before .before .before .before .before .before .before .args .numbers .now) (c .before .before .before .before .before .before .before .before .before .before .before .args .words .now) (firstRows (c .before .before .before .before .before .before .before .before .before .before .before .args .state .now) (c .before .before .before .before .before .before .before .before .before .before .before .args .i)) (worldAt (c .before .before .before .before .before .before .before .before .before .before .before .args .rules .now) (c .before .before .before .before .before .before .before .before .before .before .before .args .kinds .now) (c .before .before .before .before .before .before .before .before .before .before .before .args .state .now)) (c .before .before .before .before .before .before .before .before .before .before .before .pre .2) (c .before .before .before .before .before .row-at .result .user) (c .before .before .before .before .base-of .result) (c .before .before .before .before .base-of .ensures) known (c .before .before .before .before .before .row-at .result .role) (c .before .before .before .wide .result) q (c .before .before .before .wide .ensures)) ∙ sym (c .before .is-marked .ensures) ∙ c .if1 .taken))))),
       λ e. absurd (false≢true e),
     )
 
@@ -58,7 +57,7 @@ returns-2 : tie.Need-returns-2
 unfolding rowClauses policyOf
 returns-2 c = (
   fails-at (rowClauses (worldAt (c .before .before .before .before .before .before .before .before .before .before .before .before .before .args .rules .now) (c .before .before .before .before .before .before .before .before .before .before .before .before .before .args .kinds .now) (c .before .before .before .before .before .before .before .before .before .before .before .before .before .args .state .now)) (firstRows (c .before .before .before .before .before .before .before .before .before .before .before .before .before .args .state .now) (c .before .before .before .before .before .before .before .before .before .before .before .before .before .args .i))) (c .before .before .before .before .before .before .before .row-at .ensures)
-  (later (later (later (here (ap (ltb (c .before .before .before .before .before .before .before .row-at .result .rule)) (length-entries ruleFrom 11 (c .before .before .before .before .before .before .before .before .before .before .before .before .before .args .rules .now) (length (c .before .before .before .before .before .before .before .before .before .before .before .before .before .args .rules .now) / 11)) ∙ le-ltb (c .before .before .before .before .before .before .before .row-at .result .rule) (length (c .before .before .before .before .before .before .before .before .before .before .before .before .before .args .rules .now) / 11) (omega (arith, c .before .wide2 .ensures))))))),
+      (later (later (later (here (ap (ltb (c .before .before .before .before .before .before .before .row-at .result .rule)) (length-entries ruleFrom 11 (c .before .before .before .before .before .before .before .before .before .before .before .before .before .args .rules .now) (length (c .before .before .before .before .before .before .before .before .before .before .before .before .before .args .rules .now) / 11)) ∙ le-ltb (c .before .before .before .before .before .before .before .row-at .result .rule) (length (c .before .before .before .before .before .before .before .before .before .before .before .before .before .args .rules .now) / 11) (omega (arith, c .before .wide2 .ensures))))))),
   λ e. absurd (false≢true e),
 )
 
@@ -72,7 +71,7 @@ returns-3 : tie.Need-returns-3
 unfolding rowClauses policyOf
 returns-3 c = (
   fails-at (rowClauses (worldAt (c .before .before .before .before .before .before .before .before .before .before .before .before .before .before .before .before .before .args .rules .now) (c .before .before .before .before .before .before .before .before .before .before .before .before .before .before .before .before .before .args .kinds .now) (c .before .before .before .before .before .before .before .before .before .before .before .before .before .before .before .before .before .args .state .now)) (firstRows (c .before .before .before .before .before .before .before .before .before .before .before .before .before .before .before .before .before .args .state .now) (c .before .before .before .before .before .before .before .before .before .before .before .before .before .before .before .before .before .args .i))) (c .before .before .before .before .before .before .before .before .before .before .before .row-at .ensures)
-  (later (later (later (later (here (ap (λ (x : Rule). eqb (x .target) (c .before .before .before .before .before .before .before .before .before .before .before .row-at .result .role)) (sym (c .before .before .before .rule-numbered .ensures ∙ ap (λ (n : ℕ). ruleNumbered (policyOf (without-rights (c .before .before .before .before .before .before .before .before .before .before .before .before .before .before .before .before .before .args .rules .now) [])) n) (c .before .before .before .before .before .wide2 .ensures))) ∙ ne-eqb _ _ (c .if3 .taken))))))),
+      (later (later (later (later (here (ap (λ (x : Rule). eqb (x .target) (c .before .before .before .before .before .before .before .before .before .before .before .row-at .result .role)) (sym (c .before .before .before .rule-numbered .ensures ∙ ap (λ (n : ℕ). ruleNumbered (policyOf (without-rights (c .before .before .before .before .before .before .before .before .before .before .before .before .before .before .before .before .before .args .rules .now) [])) n) (c .before .before .before .before .before .wide2 .ensures))) ∙ ne-eqb _ _ (c .if3 .taken))))))),
   λ e. absurd (false≢true e),
 )
 
@@ -85,10 +84,9 @@ same-length-4 c = search needs
 returns-4 : tie.Need-returns-4
 unfolding rowClauses
 returns-4 c =
-    let known : 0 < getD (c .before .before .before .before .before .before .before .before .before .before .before .before .before .before .before .before .before .before .before .before .args .numbers .now) (c .before .before .before .before .before .before .before .before .before .before .before .before .before .before .row-at .result .user) 0 = subst⁻¹ (λ (r : Row). 0 < getD (c .before .before .before .before .before .before .before .before .before .before .before .before .before .before .before .before .before .before .before .before .args .numbers .now) (r .user) 0) (c .before .before .before .before .before .before .before .before .before .before .before .before .before .before .row-at .ensures) (c .before .before .before .before .before .before .before .before .before .before .before .before .before .before .before .before .before .before .before .before .pre .1 .known (c .before .before .before .before .before .before .before .before .before .before .before .before .before .before .before .before .before .before .before .before .args .i) (c .before .before .before .before .before .before .before .before .before .before .before .before .before .before .before .before .before .before .before .before .pre .3)) in
-    (
+    let known : 0 < getD (c .before .before .before .before .before .before .before .before .before .before .before .before .before .before .before .before .before .before .before .before .args .numbers .now) (c .before .before .before .before .before .before .before .before .before .before .before .before .before .before .row-at .result .user) 0 = subst⁻¹ (λ (r : Row). 0 < getD (c .before .before .before .before .before .before .before .before .before .before .before .before .before .before .before .before .before .before .before .before .args .numbers .now) (r .user) 0) (c .before .before .before .before .before .before .before .before .before .before .before .before .before .before .row-at .ensures) (c .before .before .before .before .before .before .before .before .before .before .before .before .before .before .before .before .before .before .before .before .pre .1 .known (c .before .before .before .before .before .before .before .before .before .before .before .before .before .before .before .before .before .before .before .before .args .i) (c .before .before .before .before .before .before .before .before .before .before .before .before .before .before .before .before .before .before .before .before .pre .3)) in (
       fails-at (rowClauses (worldAt (c .before .before .before .before .before .before .before .before .before .before .before .before .before .before .before .before .before .before .before .before .args .rules .now) (c .before .before .before .before .before .before .before .before .before .before .before .before .before .before .before .before .before .before .before .before .args .kinds .now) (c .before .before .before .before .before .before .before .before .before .before .before .before .before .before .before .before .before .before .before .before .args .state .now)) (firstRows (c .before .before .before .before .before .before .before .before .before .before .before .before .before .before .before .before .before .before .before .before .args .state .now) (c .before .before .before .before .before .before .before .before .before .before .before .before .before .before .before .before .before .before .before .before .args .i))) (c .before .before .before .before .before .before .before .before .before .before .before .before .before .before .row-at .ensures)
-      (later (later (later (later (later (here (sym (supported-there (c .before .before .before .before .before .before .before .before .before .before .before .before .before .before .before .before .before .before .before .before .args .numbers .now) (c .before .before .before .before .before .before .before .before .before .before .before .before .before .before .before .before .before .before .before .before .args .words .now) (firstRows (c .before .before .before .before .before .before .before .before .before .before .before .before .before .before .before .before .before .before .before .before .args .state .now) (c .before .before .before .before .before .before .before .before .before .before .before .before .before .before .before .before .before .before .before .before .args .i)) (worldAt (c .before .before .before .before .before .before .before .before .before .before .before .before .before .before .before .before .before .before .before .before .args .rules .now) (c .before .before .before .before .before .before .before .before .before .before .before .before .before .before .before .before .before .before .before .before .args .kinds .now) (c .before .before .before .before .before .before .before .before .before .before .before .before .before .before .before .before .before .before .before .before .args .state .now)) (c .before .before .before .before .before .before .before .before .before .before .before .before .before .before .before .before .before .before .before .before .pre .2) (c .before .before .before .before .before .before .before .before .before .before .before .before .before .before .row-at .result .user) (c .before .before .before .before .before .before .before .before .before .before .before .before .before .base-of .result) (c .before .before .before .before .before .before .before .before .before .before .before .before .before .base-of .ensures) known (c .before .before .before .before .before .before .before .before .before .before .before .before .before .before .row-at .result) refl) ∙ sym (c .before .row-supported .ensures) ∙ not-true _ (c .if4 .taken)))))))),
+          (later (later (later (later (later (here (sym (supported-there (c .before .before .before .before .before .before .before .before .before .before .before .before .before .before .before .before .before .before .before .before .args .numbers .now) (c .before .before .before .before .before .before .before .before .before .before .before .before .before .before .before .before .before .before .before .before .args .words .now) (firstRows (c .before .before .before .before .before .before .before .before .before .before .before .before .before .before .before .before .before .before .before .before .args .state .now) (c .before .before .before .before .before .before .before .before .before .before .before .before .before .before .before .before .before .before .before .before .args .i)) (worldAt (c .before .before .before .before .before .before .before .before .before .before .before .before .before .before .before .before .before .before .before .before .args .rules .now) (c .before .before .before .before .before .before .before .before .before .before .before .before .before .before .before .before .before .before .before .before .args .kinds .now) (c .before .before .before .before .before .before .before .before .before .before .before .before .before .before .before .before .before .before .before .before .args .state .now)) (c .before .before .before .before .before .before .before .before .before .before .before .before .before .before .before .before .before .before .before .before .pre .2) (c .before .before .before .before .before .before .before .before .before .before .before .before .before .before .row-at .result .user) (c .before .before .before .before .before .before .before .before .before .before .before .before .before .base-of .result) (c .before .before .before .before .before .before .before .before .before .before .before .before .before .base-of .ensures) known (c .before .before .before .before .before .before .before .before .before .before .before .before .before .before .row-at .result) refl) ∙ sym (c .before .row-supported .ensures) ∙ not-true _ (c .if4 .taken)))))))),
       λ e. absurd (false≢true e),
     )
 
@@ -103,8 +101,7 @@ unfolding rowClauses policyOf
 returns-5 c =
     let known : 0 < getD (c .before .before .before .before .before .before .before .before .before .before .before .before .before .before .before .before .before .before .before .before .before .before .before .before .args .numbers .now) (c .before .before .before .before .before .before .before .before .before .before .before .before .before .before .before .before .before .before .row-at .result .user) 0 = subst⁻¹ (λ (r : Row). 0 < getD (c .before .before .before .before .before .before .before .before .before .before .before .before .before .before .before .before .before .before .before .before .before .before .before .before .args .numbers .now) (r .user) 0) (c .before .before .before .before .before .before .before .before .before .before .before .before .before .before .before .before .before .before .row-at .ensures) (c .before .before .before .before .before .before .before .before .before .before .before .before .before .before .before .before .before .before .before .before .before .before .before .before .pre .1 .known (c .before .before .before .before .before .before .before .before .before .before .before .before .before .before .before .before .before .before .before .before .before .before .before .before .args .i) (c .before .before .before .before .before .before .before .before .before .before .before .before .before .before .before .before .before .before .before .before .before .before .before .before .pre .3)) in
     let u : c .before .before .before .before .before .before .before .before .before .before .before .before .before .before .before .before .before .before .row-at .result .user < 4096 = omega (arith, ap (λ (r : Row). r .user) (c .before .before .before .before .before .before .before .before .before .before .before .before .before .before .before .before .before .before .row-at .ensures), row-in-range (c .before .before .before .before .before .before .before .before .before .before .before .before .before .before .before .before .before .before .before .before .before .before .before .before .args .state .now) (c .before .before .before .before .before .before .before .before .before .before .before .before .before .before .before .before .before .before .before .before .before .before .before .before .pre .0) (c .before .before .before .before .before .before .before .before .before .before .before .before .before .before .before .before .before .before .before .before .before .before .before .before .args .i) (c .before .before .before .before .before .before .before .before .before .before .before .before .before .before .before .before .before .before .before .before .before .before .before .before .pre .3) .0) in
-    let q : c .before .before .before .before .before .before .before .before .before .before .before .before .before .before .before .before .before .before .row-at .result .role < 256 = omega (arith, ap (λ (r : Row). r .role) (c .before .before .before .before .before .before .before .before .before .before .before .before .before .before .before .before .before .before .row-at .ensures), row-in-range (c .before .before .before .before .before .before .before .before .before .before .before .before .before .before .before .before .before .before .before .before .before .before .before .before .args .state .now) (c .before .before .before .before .before .before .before .before .before .before .before .before .before .before .before .before .before .before .before .before .before .before .before .before .pre .0) (c .before .before .before .before .before .before .before .before .before .before .before .before .before .before .before .before .before .before .before .before .before .before .before .before .args .i) (c .before .before .before .before .before .before .before .before .before .before .before .before .before .before .before .before .before .before .before .before .before .before .before .before .pre .3) .1) in
-    (
+    let q : c .before .before .before .before .before .before .before .before .before .before .before .before .before .before .before .before .before .before .row-at .result .role < 256 = omega (arith, ap (λ (r : Row). r .role) (c .before .before .before .before .before .before .before .before .before .before .before .before .before .before .before .before .before .before .row-at .ensures), row-in-range (c .before .before .before .before .before .before .before .before .before .before .before .before .before .before .before .before .before .before .before .before .before .before .before .before .args .state .now) (c .before .before .before .before .before .before .before .before .before .before .before .before .before .before .before .before .before .before .before .before .before .before .before .before .pre .0) (c .before .before .before .before .before .before .before .before .before .before .before .before .before .before .before .before .before .before .before .before .before .before .before .before .args .i) (c .before .before .before .before .before .before .before .before .before .before .before .before .before .before .before .before .before .before .before .before .before .before .before .before .pre .3) .1) in (
       passes-at (rowClauses (worldAt (c .before .before .before .before .before .before .before .before .before .before .before .before .before .before .before .before .before .before .before .before .before .before .before .before .args .rules .now) (c .before .before .before .before .before .before .before .before .before .before .before .before .before .before .before .before .before .before .before .before .before .before .before .before .args .kinds .now) (c .before .before .before .before .before .before .before .before .before .before .before .before .before .before .before .before .before .before .before .before .before .before .before .before .args .state .now)) (firstRows (c .before .before .before .before .before .before .before .before .before .before .before .before .before .before .before .before .before .before .before .before .before .before .before .before .args .state .now) (c .before .before .before .before .before .before .before .before .before .before .before .before .before .before .before .before .before .before .before .before .before .before .before .before .args .i))) (c .before .before .before .before .before .before .before .before .before .before .before .before .before .before .before .before .before .before .row-at .ensures) (
         lt-ltb _ _ u,
         (

@@ -14,36 +14,30 @@ rows-in-range-requires c κs = search needs
 returns : tie.Need-returns
 returns c = sym (rows-out (worldAt (c .before .before .before .before .before .args .rules .now) (c .before .before .before .before .before .args .kinds .now) (c .before .before .before .before .before .args .state .now)) (decode (c .before .before .before .before .before .args .state .now) .rows) (sym (c .before .rows-in-range .ensures) ∙ not-true _ (c .if1 .taken)))
 
--- src/lib.rt:280:32
 slice-aggregate-number-users : tie.Need-slice-aggregate-number-users
 slice-aggregate-number-users c = search needs
 
 number-users-requires : tie.Need-number-users-requires
 number-users-requires c κs = (ranges (c .before .before .before .before .before .before .args .state .now) (c .before .before .before .before .before .before .pre .0) (c .before .before .before .before .before .before .pre .1) (sym (c .before .before .rows-in-range .ensures) ∙ not-false _ (c .before .if1 .left)), refl)
 
--- src/lib.rt:282:38
 slice-aggregate-enter-certificates : tie.Need-slice-aggregate-enter-certificates
 slice-aggregate-enter-certificates c = search needs
 
--- src/lib.rt:282:48
 slice-aggregate-enter-certificates-2 : tie.Need-slice-aggregate-enter-certificates-2
 slice-aggregate-enter-certificates-2 c = search needs
 
 enter-certificates-requires : tie.Need-enter-certificates-requires
 enter-certificates-requires c κs = (ranges (c .before .before .before .before .before .before .before .before .before .before .args .state .now) (c .before .before .before .before .before .before .before .before .before .before .pre .0) (c .before .before .before .before .before .before .before .before .before .before .pre .1) (sym (c .before .before .before .before .before .before .rows-in-range .ensures) ∙ not-false _ (c .before .before .before .before .before .if1 .left)), indexed-state (c .before .before .before .before .before .before .before .before .before .before .args .state .now) _ (c .before .before .before .number-users .ensures))
 
--- src/lib.rt:283:41
 slice-aggregate-each-row-sound : tie.Need-slice-aggregate-each-row-sound
 slice-aggregate-each-row-sound c = search needs
 
--- src/lib.rt:283:51
 slice-aggregate-each-row-sound-2 : tie.Need-slice-aggregate-each-row-sound-2
 slice-aggregate-each-row-sound-2 c = search needs
 
 each-row-sound-requires : tie.Need-each-row-sound-requires
 each-row-sound-requires c κs = (ranges (c .before .before .before .before .before .before .before .before .before .before .before .before .before .before .args .state .now) (c .before .before .before .before .before .before .before .before .before .before .before .before .before .before .pre .0) (c .before .before .before .before .before .before .before .before .before .before .before .before .before .before .pre .1) (sym (c .before .before .before .before .before .before .before .before .before .before .rows-in-range .ensures) ∙ not-false _ (c .before .before .before .before .before .before .before .before .before .if1 .left)), c .before .before .before .before .before .before .before .number-users .ensures, c .before .before .before .enter-certificates .ensures)
 
--- src/lib.rt:272:1
 returns-2 : tie.Need-returns-2
 returns-2 c = search needs
 

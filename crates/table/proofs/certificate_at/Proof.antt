@@ -5,43 +5,33 @@ use borrow.Author.Needs.{needs}
 use Rattle.table.proofs.certificate_at.Statement.{statement}
 use Rattle.table.proofs.certificate_at.Tie as tie
 
--- src/lib.rt:114:13
 mul-b : tie.Need-mul-b
 mul-b c = search needs
 
--- src/lib.rt:114:13
 add-b : tie.Need-add-b
 add-b c = search needs
 
--- src/lib.rt:116:20
 mul-t4 : tie.Need-mul-t4
 mul-t4 c = search needs
 
--- src/lib.rt:116:20
 shared-slice-read-t6 : tie.Need-shared-slice-read-t6
 shared-slice-read-t6 c = search needs
 
--- src/lib.rt:117:21
 add-t7 : tie.Need-add-t7
 add-t7 c = search needs
 
--- src/lib.rt:117:15
 mul-t8 : tie.Need-mul-t8
 mul-t8 c = search needs
 
--- src/lib.rt:117:15
 shared-slice-read-t10 : tie.Need-shared-slice-read-t10
 shared-slice-read-t10 c = search needs
 
--- src/lib.rt:118:26
 add-t11 : tie.Need-add-t11
 add-t11 c = search needs
 
--- src/lib.rt:118:20
 mul-t12 : tie.Need-mul-t12
 mul-t12 c = search needs
 
--- src/lib.rt:118:20
 shared-slice-read-t14 : tie.Need-shared-slice-read-t14
 shared-slice-read-t14 c = search needs
 

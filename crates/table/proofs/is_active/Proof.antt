@@ -21,11 +21,9 @@ loop-holds : tie.Need-loop-holds Inv-loop μ-loop
 unfolding active firstRows
 loop-holds c = (search needs, refl)
 
--- src/lib.rt:175:19
 row-at-requires : tie.Need-row-at-requires Inv-loop μ-loop
 row-at-requires c κs = search needs
 
--- src/lib.rt:175:12
 row-is-requires : tie.Need-row-is-requires Inv-loop μ-loop
 row-is-requires c κs = search needs
 
@@ -33,11 +31,9 @@ returns : tie.Need-returns Inv-loop μ-loop
 unfolding active firstRows rowAt
 returns c = sym (any-hit rowFrom 3 (isRow (c .before .before .before .before .before .before .args .user) (c .before .before .before .before .before .before .args .role)) (rowNumbers (c .before .before .before .before .before .before .args .state .now)) (c .before .before .before .before .before .before .args .k) (c .before .before .before .before .loop .j) (c .before .before .before .loop-test .taken) (ap (isRow (c .before .before .before .before .before .before .args .user) (c .before .before .before .before .before .before .args .role)) (sym (c .before .before .row-at .ensures)) ∙ sym (c .before .row-is .ensures) ∙ c .if1 .taken))
 
--- src/lib.rt:178:9
 add-j : tie.Need-add-j Inv-loop μ-loop
 add-j c = search needs
 
--- src/lib.rt:174:5
 loop-less : tie.Need-loop-less Inv-loop μ-loop
 loop-less c = search needs
 

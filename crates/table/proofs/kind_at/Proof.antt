@@ -5,87 +5,66 @@ use borrow.Author.Needs.{needs}
 use Rattle.table.proofs.kind_at.Statement.{statement}
 use Rattle.table.proofs.kind_at.Tie as tie
 
--- src/lib.rt:75:13
 mul-b : tie.Need-mul-b
 mul-b c = search needs
 
--- src/lib.rt:77:20
 mul-t4 : tie.Need-mul-t4
 mul-t4 c = search needs
 
--- src/lib.rt:77:20
 shared-slice-read-t6 : tie.Need-shared-slice-read-t6
 shared-slice-read-t6 c = search needs
 
--- src/lib.rt:78:21
 add-t7 : tie.Need-add-t7
 add-t7 c = search needs
 
--- src/lib.rt:78:15
 mul-t8 : tie.Need-mul-t8
 mul-t8 c = search needs
 
--- src/lib.rt:78:15
 shared-slice-read-t10 : tie.Need-shared-slice-read-t10
 shared-slice-read-t10 c = search needs
 
--- src/lib.rt:79:18
 add-t11 : tie.Need-add-t11
 add-t11 c = search needs
 
--- src/lib.rt:79:12
 mul-t12 : tie.Need-mul-t12
 mul-t12 c = search needs
 
--- src/lib.rt:79:12
 shared-slice-read-t14 : tie.Need-shared-slice-read-t14
 shared-slice-read-t14 c = search needs
 
--- src/lib.rt:80:31
 add-t15 : tie.Need-add-t15
 add-t15 c = search needs
 
--- src/lib.rt:80:25
 mul-t16 : tie.Need-mul-t16
 mul-t16 c = search needs
 
--- src/lib.rt:80:25
 shared-slice-read-t18 : tie.Need-shared-slice-read-t18
 shared-slice-read-t18 c = search needs
 
--- src/lib.rt:80:45
 add-t19 : tie.Need-add-t19
 add-t19 c = search needs
 
--- src/lib.rt:80:39
 mul-t20 : tie.Need-mul-t20
 mul-t20 c = search needs
 
--- src/lib.rt:80:39
 shared-slice-read-t22 : tie.Need-shared-slice-read-t22
 shared-slice-read-t22 c = search needs
 
--- src/lib.rt:80:59
 add-t23 : tie.Need-add-t23
 add-t23 c = search needs
 
--- src/lib.rt:80:53
 mul-t24 : tie.Need-mul-t24
 mul-t24 c = search needs
 
--- src/lib.rt:80:53
 shared-slice-read-t26 : tie.Need-shared-slice-read-t26
 shared-slice-read-t26 c = search needs
 
--- src/lib.rt:80:73
 add-t27 : tie.Need-add-t27
 add-t27 c = search needs
 
--- src/lib.rt:80:67
 mul-t28 : tie.Need-mul-t28
 mul-t28 c = search needs
 
--- src/lib.rt:80:67
 shared-slice-read-t30 : tie.Need-shared-slice-read-t30
 shared-slice-read-t30 c = search needs
 

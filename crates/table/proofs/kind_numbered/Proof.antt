@@ -9,7 +9,6 @@ use borrow.Author.Needs.{needs}
 use Rattle.table.proofs.kind_numbered.Statement.{statement}
 use Rattle.table.proofs.kind_numbered.Tie as tie
 
--- src/lib.rt:147:9
 kind-at-requires : tie.Need-kind-at-requires
 kind-at-requires c κs = search needs
 

@@ -4,27 +4,21 @@ use borrow.Author.Needs.{needs}
 use Rattle.table.proofs.right_at.Statement.{statement}
 use Rattle.table.proofs.right_at.Tie as tie
 
--- src/lib.rt:89:13
 mul-b : tie.Need-mul-b
 mul-b c = search needs
 
--- src/lib.rt:91:15
 mul-t4 : tie.Need-mul-t4
 mul-t4 c = search needs
 
--- src/lib.rt:91:15
 shared-slice-read-t6 : tie.Need-shared-slice-read-t6
 shared-slice-read-t6 c = search needs
 
--- src/lib.rt:92:27
 add-t7 : tie.Need-add-t7
 add-t7 c = search needs
 
--- src/lib.rt:92:20
 mul-t8 : tie.Need-mul-t8
 mul-t8 c = search needs
 
--- src/lib.rt:92:20
 shared-slice-read-t10 : tie.Need-shared-slice-read-t10
 shared-slice-read-t10 c = search needs
 

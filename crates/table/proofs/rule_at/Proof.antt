@@ -5,135 +5,102 @@ use borrow.Author.Needs.{needs}
 use Rattle.table.proofs.rule_at.Statement.{statement}
 use Rattle.table.proofs.rule_at.Tie as tie
 
--- src/lib.rt:52:13
 mul-b : tie.Need-mul-b
 mul-b c = search needs
 
--- src/lib.rt:54:17
 mul-t4 : tie.Need-mul-t4
 mul-t4 c = search needs
 
--- src/lib.rt:54:17
 shared-slice-read-t6 : tie.Need-shared-slice-read-t6
 shared-slice-read-t6 c = search needs
 
--- src/lib.rt:55:18
 add-t7 : tie.Need-add-t7
 add-t7 c = search needs
 
--- src/lib.rt:55:12
 mul-t8 : tie.Need-mul-t8
 mul-t8 c = search needs
 
--- src/lib.rt:55:12
 shared-slice-read-t10 : tie.Need-shared-slice-read-t10
 shared-slice-read-t10 c = search needs
 
--- src/lib.rt:56:18
 add-t11 : tie.Need-add-t11
 add-t11 c = search needs
 
--- src/lib.rt:56:12
 mul-t12 : tie.Need-mul-t12
 mul-t12 c = search needs
 
--- src/lib.rt:56:12
 shared-slice-read-t14 : tie.Need-shared-slice-read-t14
 shared-slice-read-t14 c = search needs
 
--- src/lib.rt:58:19
 add-t15 : tie.Need-add-t15
 add-t15 c = search needs
 
--- src/lib.rt:58:13
 mul-t16 : tie.Need-mul-t16
 mul-t16 c = search needs
 
--- src/lib.rt:58:13
 shared-slice-read-t18 : tie.Need-shared-slice-read-t18
 shared-slice-read-t18 c = search needs
 
--- src/lib.rt:59:19
 add-t19 : tie.Need-add-t19
 add-t19 c = search needs
 
--- src/lib.rt:59:13
 mul-t20 : tie.Need-mul-t20
 mul-t20 c = search needs
 
--- src/lib.rt:59:13
 shared-slice-read-t22 : tie.Need-shared-slice-read-t22
 shared-slice-read-t22 c = search needs
 
--- src/lib.rt:60:19
 add-t23 : tie.Need-add-t23
 add-t23 c = search needs
 
--- src/lib.rt:60:13
 mul-t24 : tie.Need-mul-t24
 mul-t24 c = search needs
 
--- src/lib.rt:60:13
 shared-slice-read-t26 : tie.Need-shared-slice-read-t26
 shared-slice-read-t26 c = search needs
 
--- src/lib.rt:61:19
 add-t27 : tie.Need-add-t27
 add-t27 c = search needs
 
--- src/lib.rt:61:13
 mul-t28 : tie.Need-mul-t28
 mul-t28 c = search needs
 
--- src/lib.rt:61:13
 shared-slice-read-t30 : tie.Need-shared-slice-read-t30
 shared-slice-read-t30 c = search needs
 
--- src/lib.rt:62:19
 add-t31 : tie.Need-add-t31
 add-t31 c = search needs
 
--- src/lib.rt:62:13
 mul-t32 : tie.Need-mul-t32
 mul-t32 c = search needs
 
--- src/lib.rt:62:13
 shared-slice-read-t34 : tie.Need-shared-slice-read-t34
 shared-slice-read-t34 c = search needs
 
--- src/lib.rt:63:19
 add-t35 : tie.Need-add-t35
 add-t35 c = search needs
 
--- src/lib.rt:63:13
 mul-t36 : tie.Need-mul-t36
 mul-t36 c = search needs
 
--- src/lib.rt:63:13
 shared-slice-read-t38 : tie.Need-shared-slice-read-t38
 shared-slice-read-t38 c = search needs
 
--- src/lib.rt:64:19
 add-t39 : tie.Need-add-t39
 add-t39 c = search needs
 
--- src/lib.rt:64:13
 mul-t40 : tie.Need-mul-t40
 mul-t40 c = search needs
 
--- src/lib.rt:64:13
 shared-slice-read-t42 : tie.Need-shared-slice-read-t42
 shared-slice-read-t42 c = search needs
 
--- src/lib.rt:65:19
 add-t43 : tie.Need-add-t43
 add-t43 c = search needs
 
--- src/lib.rt:65:13
 mul-t44 : tie.Need-mul-t44
 mul-t44 c = search needs
 
--- src/lib.rt:65:13
 shared-slice-read-t46 : tie.Need-shared-slice-read-t46
 shared-slice-read-t46 c = search needs
 

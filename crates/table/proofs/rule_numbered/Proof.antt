@@ -9,7 +9,6 @@ use borrow.Author.Needs.{needs}
 use Rattle.table.proofs.rule_numbered.Statement.{statement}
 use Rattle.table.proofs.rule_numbered.Tie as tie
 
--- src/lib.rt:131:9
 rule-at-requires : tie.Need-rule-at-requires
 rule-at-requires c κs = search needs
 
