@@ -5,8 +5,7 @@ ghost use Rattle.model.specs.Calls.{fresh as freshCall, activate as activateCal
 ghost use Rattle.inner.specs.Lent.{lent, Answers, AnswersWith};
 ghost use Rattle.calls.specs.Judgement.{judgement};
 use model::Answer;
-
-const STATE_SIZE: usize = 1602;
+use model::STATE_SIZE;
 
 // The code that comes before every other, or 0 for sound tables.
 fn judge(rules: &[u16], kinds: &[u16], rights: &[u16], state: &[u16]) -> u16

@@ -1,13 +1,13 @@
 -- What a change by places leaves, over values.
 use Prim.Native.Nat.{ℕ, zero, suc, _+_, _*_, _-_, _≤_, _<_}
-use mathlib.Core.Path.{_≡_, refl, sym, ap, _∙_, subst, subst⁻¹}
+use mathlib.Core.Path.{_≡_, sym, ap, _∙_, subst⁻¹}
 use mathlib.Core.Logic.{_≢_, _⊎_, inl, inr}
 use mathlib.Core.List.{List, [], _∷_, _++_}
 use native.Mathlib.Omega.{arith}
 use lib.ListN.{length, getD, set, take, drop, length-set}
 use lib.Seq.{getD-set-same, getD-set-other, take-set-lt}
-use Rattle.model.specs.Records.{State, withRows, withCertificates, withFact}
-use Rattle.model.specs.Layout.{decode, encode, rowCount, certificateCount, factNumbers, rowFrom, rowNumbers, certificateFrom, certificateNumbers}
+use Rattle.model.specs.Records.{withRows, withCertificates, withFact}
+use Rattle.model.specs.Layout.{decode, encode, rowCount, certificateCount, certificateFrom, certificateNumbers}
 use Rattle.model.specs.declared.Row.{Row}
 use Rattle.model.specs.declared.Certificate.{Certificate}
 use Rattle.model.proofs.Tests.{lt-or-ge}

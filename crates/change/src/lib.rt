@@ -4,21 +4,17 @@ ghost use mathlib.Core.Bool.{true};
 ghost use mathlib.Core.List.{[], _∷_, _++_};
 ghost use Prim.Native.Nat.{suc, _+_, _*_, _<_, _≤_};
 ghost use lib.ListN.{length, getD, take, drop};
-ghost use Rattle.model.specs.Limits.{mostRows, mostCertificates, stateSize, facts};
+ghost use Rattle.model.specs.Limits.{mostRows, mostCertificates, facts};
 ghost use Rattle.model.specs.Records.{withRows, withCertificates, withFact};
 ghost use Rattle.model.specs.Layout.{decode, encode, rowCount, certificateCount};
 ghost use Rattle.model.specs.Sound.{wellFormed};
 ghost use Rattle.change.specs.Appended.{Appended};
+use model::CERTIFICATE_COUNT;
+use model::CERTIFICATE_WIDTH;
+use model::CERTIFICATES;
 use model::Certificate;
+use model::ROW_COUNT;
 use model::Row;
-
-const ROW_COUNT: usize = 64;
-
-const CERTIFICATE_COUNT: usize = 833;
-
-const CERTIFICATES: usize = 834;
-
-const CERTIFICATE_WIDTH: usize = 3;
 
 // The table that stands behind its count at a place has one entry more.
 fn append(state: &mut [u16], at: usize, x: u16, y: u16, z: u16)

@@ -8,13 +8,10 @@ ghost use Rattle.model.specs.Calls.{allowed};
 ghost use Rattle.table.specs.Entries.{Sized};
 ghost use Rattle.policy.specs.Lent.{lent};
 ghost use Rattle.direct.specs.Having.{RightsFit, hasRight, Having};
+use model::RIGHT_WIDTH;
+use model::ROLES;
+use model::ROW_COUNT;
 use model::Row;
-
-const ROLES: u16 = 256;
-
-const ROW_COUNT: usize = 64;
-
-const RIGHT_WIDTH: usize = 2;
 
 // Which roles have the privilege themselves: one pass over the rights serves all the rows that are asked afterwards.
 pub fn roles_having(rights: &[u16], privilege: u16) -> [bool; 256]

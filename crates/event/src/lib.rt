@@ -1,6 +1,5 @@
 // What an event of the program answers. The policy is judged once, before the first event; a call leaves a sound state, so no state is
 // judged at all.
-ghost use mathlib.Core.Path.{_≡_};
 ghost use Prim.Native.Nat.{_<_, _≤_};
 ghost use lib.Dec.{T};
 ghost use Rattle.model.specs.Layout.{policyOf};

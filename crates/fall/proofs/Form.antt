@@ -6,17 +6,15 @@ use mathlib.Core.Logic.{_⊎_, inl, inr}
 use mathlib.Core.List.{List, [], _∷_, _++_}
 use native.Mathlib.Omega.{arith}
 use native.Mathlib.Numerals.{add-one}
-use lib.Dec.{T, eqb, leb, eqb→eq, eqb-refl, leb→le, le→leb}
+use lib.Dec.{T, eqb, eqb→eq, leb→le, le→leb}
 use lib.ListN.{length, getD, take, drop, length-take, length-drop, List·getD-eq-default}
 use lib.Seq.{getD-take, getD-drop, ext-getD, length-take-le}
 use Rattle.model.specs.Lists.{all, isZero, isBit}
 use Rattle.model.specs.Limits.{mostRows, mostCertificates, stateSize}
-use Rattle.model.specs.Records.{State, withRows, withCertificates}
+use Rattle.model.specs.Records.{State}
 use Rattle.model.specs.Layout.{decode, encode, rowCount, certificateCount, factNumbers, rowNumbers, certificateNumbers, rowFrom, certificateFrom}
 use Rattle.model.specs.Sound.{formClauses, wellFormed}
-use Rattle.model.specs.declared.Row.{Row}
-use Rattle.model.specs.declared.Certificate.{Certificate}
-use Rattle.model.proofs.Tests.{lt-or-ge, is-true, of-true, and-left, and-right, and-both, each, of-each}
+use Rattle.model.proofs.Tests.{lt-or-ge, of-true, and-left, and-right, and-both, each, of-each}
 use Rattle.model.proofs.Numbers.{encode-decode}
 use Rattle.table.specs.Entries.{entry, entries, rowAt, firstRows, certificateAt, firstCertificates, Sized}
 use Rattle.table.proofs.Entries.{entries-more, row-places, certificate-places}

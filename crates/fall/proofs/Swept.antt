@@ -1,5 +1,5 @@
 -- The pass over the rows: what stands in the state after i rows, of which w were kept. For any test, since nothing here depends on it.
-use Prim.Native.Nat.{ℕ, zero, suc, _+_, _*_, _-_, _≤_, _<_}
+use Prim.Native.Nat.{ℕ, _+_, _*_, _-_, _≤_, _<_}
 use mathlib.Core.Path.{_≡_, refl, sym, ap, _∙_, subst, subst⁻¹}
 use mathlib.Core.Bool.{Bool, true, false, not, cond}
 use mathlib.Core.Logic.{_≢_, _⊎_, inl, inr}
@@ -8,9 +8,8 @@ use native.Mathlib.Omega.{arith}
 use lib.ListN.{length, getD, set, length-set}
 use lib.Seq.{getD-set-same, getD-set-other}
 use Rattle.model.specs.Lists.{without}
-use Rattle.model.specs.Records.{Policy, State, World, worldOf, withRows}
-use Rattle.model.specs.Layout.{decode, encode, policyOf, rowCount, certificateCount, rowFrom, rowNumbers}
-use Rattle.model.specs.Conditions.{supported}
+use Rattle.model.specs.Records.{withRows}
+use Rattle.model.specs.Layout.{decode, policyOf, rowCount, rowFrom, rowNumbers}
 use Rattle.model.specs.Left.{keep, sweep, left}
 use Rattle.model.specs.declared.Row.{Row}
 use Rattle.model.proofs.Sweep.{left-last}

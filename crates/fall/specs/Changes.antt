@@ -1,16 +1,15 @@
 -- What a change of a state leaves, over values.
 use Prim.Native.Nat.{ℕ, _+_, _*_, _≤_, _<_}
 use mathlib.Core.Path.{_≡_}
-use mathlib.Core.Bool.{Bool, true, false, not}
+use mathlib.Core.Bool.{Bool, true, false}
 use mathlib.Core.List.{List}
 use lib.ListN.{length, getD}
-use Rattle.model.specs.Records.{Policy, State, World, worldOf, withRows}
+use Rattle.model.specs.Records.{withRows}
 use Rattle.model.specs.Layout.{decode, encode, rowCountAt, rowsAt, rowCount}
-use Rattle.model.specs.Conditions.{supported}
 use Rattle.model.specs.Left.{left}
 use Rattle.model.specs.Limits.{rowWidth}
 use Rattle.model.specs.declared.Row.{Row}
-use Rattle.table.specs.Entries.{rowAt, firstRows}
+use Rattle.table.specs.Entries.{firstRows}
 use Rattle.fall.specs.Writes.{Moved}
 
 -- where row i begins

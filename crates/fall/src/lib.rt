@@ -15,12 +15,9 @@ ghost use Rattle.table.specs.Entries.{rowAt, firstRows, worldAt, Sized};
 ghost use Rattle.index.specs.Indexed.{InRange, Numbered, Indexed};
 ghost use Rattle.fall.specs.Writes.{Moved, Zeroed};
 ghost use Rattle.fall.specs.Changes.{rowPlace, Judged, Swept, Closed, Left};
-
-const ROW_COUNT: usize = 64;
-
-const ROWS: usize = 65;
-
-const ROW_WIDTH: usize = 3;
+use model::ROW_COUNT;
+use model::ROW_WIDTH;
+use model::ROWS;
 
 // The n numbers from `from` on are moved down to `to`.
 pub fn move_down(s: &mut [u16], from: usize, to: usize, n: usize)

@@ -13,19 +13,16 @@ ghost use Rattle.model.specs.Conditions.{meant, prerequisiteRoles, kindNumbered
 ghost use Rattle.table.specs.Entries.{ruleAt, worldAt, without-rights, Sized};
 ghost use Rattle.index.specs.Marked.{Room, block, roleMarked, holdsBy, allHoldBy, supportedBy, satisfiedBy};
 ghost use Rattle.index.specs.Indexed.{InRange, baseOf, Numbered, Alone, Indexed};
+use model::CERTIFICATE_COUNT;
+use model::ROLES;
+use model::ROW_COUNT;
 use model::Row;
-
-const ROLES: u16 = 256;
 
 const BLOCK: usize = 384;
 
 const KINDS: usize = 256;
 
 const FACTS: usize = 64;
-
-const ROW_COUNT: usize = 64;
-
-const CERTIFICATE_COUNT: usize = 833;
 
 // The role is marked in the block. A role out of range never is.
 fn role_marked(words: &[u16], base: usize, role: u16) -> bool

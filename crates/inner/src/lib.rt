@@ -16,22 +16,15 @@ ghost use Rattle.index.specs.Marked.{Room, block, satisfiedBy};
 ghost use Rattle.index.specs.Indexed.{InRange};
 ghost use Rattle.inner.specs.Lent.{lent, Answers};
 use model::Answer;
+use model::CERTIFICATE_COUNT;
 use model::Certificate;
+use model::KIND_WIDTH;
+use model::ROLES;
+use model::ROW_COUNT;
+use model::RULE_WIDTH;
 use model::Row;
-
-const USERS: u16 = 4096;
-
-const ROLES: u16 = 256;
-
-const ROW_COUNT: usize = 64;
-
-const CERTIFICATE_COUNT: usize = 833;
-
-const STATE_SIZE: usize = 1602;
-
-const RULE_WIDTH: usize = 11;
-
-const KIND_WIDTH: usize = 7;
+use model::STATE_SIZE;
+use model::USERS;
 
 const BLOCK: usize = 384;
 

@@ -1,13 +1,13 @@
 -- What is proved of the definitions, on one page. Each law is a sentence over the words of crates/model/specs, and is proved by
 -- citing the file of crates/model/proofs that did the work.
 use Prim.Native.Nat.{ℕ, _+_, _<_}
-use mathlib.Core.Path.{_≡_, refl, sym, ap, _∙_, subst⁻¹, subst₂}
+use mathlib.Core.Path.{_≡_, sym, ap, _∙_, subst⁻¹, subst₂}
 use mathlib.Core.Bool.{Bool, not}
 use mathlib.Core.Logic.{_≢_, _↔_}
-use mathlib.Core.List.{List, [], _∷_, List·Memᴰ, List·Permᴰ, Sublistᴰ}
+use mathlib.Core.List.{List, List·Memᴰ, List·Permᴰ, Sublistᴰ}
 use native.Mathlib.Omega.{arith}
 use lib.Dec.{T}
-use lib.ListN.{length, replicate}
+use lib.ListN.{replicate}
 use Rattle.model.specs.Limits.{users, roles, privileges, mostRows, stateSize, accepted}
 use Rattle.model.specs.Records.{Tables, Policy, State, worldOf}
 use Rattle.model.specs.Layout.{policyOf, decode, encode}

@@ -1,26 +1,25 @@
 -- A yard in which the laws bite: a sound policy and a sound state with a cascade of five layers, one of them through a certificate's
 -- prerequisite role. It meets the premises of each law, and each law is instantiated at it, so that none is empty.
 use Prim.Native.Nat.{ℕ, _+_, _<_}
-use mathlib.Core.Path.{_≡_, refl, sym, ap, _∙_}
+use mathlib.Core.Path.{_≡_, refl, _∙_}
 use mathlib.Core.Bool.{not}
-use mathlib.Core.Logic.{_≢_, _↔_}
-use mathlib.Core.List.{List, [], _∷_, _++_, List·Memᴰ, List·Memᴰ·head, List·Memᴰ·tail, List·Permᴰ, List·Permᴰ·nil, List·Permᴰ·cons, List·Permᴰ·swap, List·Permᴰ·trans, Sublistᴰ, Sublistᴰ·slnil, Sublistᴰ·cons, Sublistᴰ·cons-cons}
+use mathlib.Core.Logic.{_↔_}
+use mathlib.Core.List.{List, [], _∷_, _++_, List·Permᴰ, List·Permᴰ·cons, List·Permᴰ·swap, List·Permᴰ·trans, Sublistᴰ, Sublistᴰ·slnil, Sublistᴰ·cons, Sublistᴰ·cons-cons}
 use native.Mathlib.Omega.{arith}
 use lib.Dec.{T}
-use lib.ListN.{length, replicate}
-use Rattle.model.specs.Records.{Tables, State, worldOf}
+use lib.ListN.{replicate}
+use Rattle.model.specs.Records.{Tables, worldOf}
 use Rattle.model.specs.Layout.{policyOf, decode, encode}
-use Rattle.model.specs.Conditions.{Condition, meant, active, someStands, holds, satisfied, supported, rolesAsked, restsOn}
+use Rattle.model.specs.Conditions.{meant, active, someStands, holds, satisfied, supported, rolesAsked, restsOn}
 use Rattle.model.specs.Left.{left, Largest}
 use Rattle.model.specs.Sound.{conditionFits, ruleClauses, kindClauses, rightClauses, policyClauses, rowClauses, certificateClauses, formClauses, soundRecords, sound}
 use Rattle.model.specs.Effective.{direct, effectively, Carries}
 use Rattle.model.specs.Outcome.{Outcome, Keeps, judgedFirst, decided}
-use Rattle.model.specs.Calls.{Call, fresh, activate, appoint, revoke, withdraw, environment, logout, invoke, effective, chain, settled, activateOn, appointOn, revokeOn, withdrawOn, environmentOn, logoutOn, allowed, invokeOn, effectiveOn, chainOn, freshOn, courseOf, answer}
-use Rattle.model.specs.Withdrawals.{Withdrawal, factFalse, certificateGone, loggedOut, run, takenAway, allAtOnce}
+use Rattle.model.specs.Calls.{Call, activate, environment, invoke, effective, settled, activateOn, withdrawOn, environmentOn, logoutOn, effectiveOn, courseOf, answer}
+use Rattle.model.specs.Withdrawals.{Withdrawal, factFalse, certificateGone, loggedOut, run, allAtOnce}
 use Rattle.model.specs.Held.{held}
-use Rattle.model.specs.Words.{Sound, SoundState, FirstApplies, Unchanged, SatisfiedNow, Granted, CarriedNow, activeRows}
+use Rattle.model.specs.Words.{Sound, FirstApplies, Unchanged, SatisfiedNow, Granted, CarriedNow, activeRows}
 use Rattle.model.specs.Tally.{Made, grantedAfter, lostAfter, next, tally}
-use Rattle.model.specs.declared.Certificate.{Certificate}
 use Rattle.model.proofs.Support.{of-active}
 use Rattle.model.proofs.Numbers.{sound-decode}
 use Rattle.model.specs.declared.Row.{Row}

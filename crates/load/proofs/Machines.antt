@@ -1,9 +1,9 @@
 -- The machine while the policy is loaded: a row for which there is room is taken, and where none is, the program goes on as if an
 -- event had come.
-use Prim.Native.Nat.{ℕ, zero, suc, _+_, _*_, _/_, _≤_, _<_}
+use Prim.Native.Nat.{ℕ, suc, _+_, _*_, _/_, _≤_, _<_}
 use mathlib.Core.Path.{_≡_, refl, sym, ap, _∙_, subst⁻¹}
-use mathlib.Core.Bool.{Bool, true, false, _&&_, _||_, cond, true≢false}
-use mathlib.Core.Logic.{_≢_, _⊎_, inl, inr}
+use mathlib.Core.Bool.{Bool, true, false, _&&_, _||_, cond}
+use mathlib.Core.Logic.{_⊎_, inl, inr}
 use mathlib.Core.List.{List, [], _∷_, _++_, map}
 use native.Mathlib.Omega.{arith}
 use native.Mathlib.Numerals.{add-one}
@@ -15,8 +15,8 @@ use Rattle.model.specs.Lists.{any}
 use Rattle.model.specs.Records.{Tables}
 use Rattle.model.specs.Layout.{encode}
 use Rattle.model.specs.Calls.{answer}
-use Rattle.model.proofs.Tests.{lt-or-ge}
-use Rattle.program.specs.Vocabulary.{words, numbered}
+use Rattle.model.proofs.Tests.{or-later, lt-or-ge}
+use Rattle.program.specs.Vocabulary.{numbered}
 use Rattle.program.specs.Lines.{lineOf}
 use Rattle.program.specs.Program.{Machine, isPolicy, isFull, badWays, isBad, afterBad, afterPolicy, afterEvent, step, steps, callOf, withRow, badRecord, start}
 use Rattle.program.specs.declared.Line.{Line}
@@ -25,7 +25,7 @@ use Rattle.reader.specs.Reading.{recordAt, lineAt, nextAt}
 use Rattle.reader.proofs.Walking.{lines-from, none-from, next-behind, next-within}
 use Rattle.load.specs.Rows.{tablesOf, hasRoom, running, linesFrom, Loads}
 use Rattle.load.specs.declared.Counts.{Counts}
-use Rattle.load.proofs.Appending.{room-rule, room-kind, room-right, room-none, rules-below, kinds-below, rights-below, is-right}
+use Rattle.load.proofs.Appending.{room-rule, room-kind, room-right, rules-below, kinds-below, rights-below, is-right}
 
 -- ── full, or not ──
 
@@ -78,10 +78,6 @@ event-not-bad w a b c came h k =
 -- a word past the policy's is as bad before the first event as after it
 came-or-not : (w : ℕ) (a b c : Bool) → 3 ≤ w → some w a b c false ≡ some w a b c true
 came-or-not w a b c h = (λ i. any (λ (way : Bool). way) (eqb w 11 ∷ (eqb w 0 && a) ∷ (eqb w 1 && b) ∷ (eqb w 2 && c) ∷ (le-ltb w 3 h i && false) ∷ [])) ∙ sym (λ i. any (λ (way : Bool). way) (eqb w 11 ∷ (eqb w 0 && a) ∷ (eqb w 1 && b) ∷ (eqb w 2 && c) ∷ (le-ltb w 3 h i && true) ∷ []))
-
-or-later : (a b : Bool) → b ≡ true → (a || b) ≡ true
-or-later true b e = refl
-or-later false b e = e
 
 -- a record of the policy after an event
 pub policy-after-event : (w : ℕ) (a b c : Bool) → w < 3 → some w a b c true ≡ true

@@ -8,6 +8,9 @@ ghost use mathlib.Core.Bool.{true};
 ghost use Rattle.model.specs.Limits.{mostRules, mostKinds, mostRights};
 ghost use Rattle.program.specs.Program.{withRow};
 ghost use Rattle.load.specs.Rows.{tablesOf, hasRoom, Loads};
+use model::KIND_WIDTH;
+use model::RIGHT_WIDTH;
+use model::RULE_WIDTH;
 use program::Line;
 
 const RULE: u16 = 0;
@@ -15,12 +18,6 @@ const RULE: u16 = 0;
 const KIND: u16 = 1;
 
 const RIGHT: u16 = 2;
-
-const RULE_WIDTH: usize = 11;
-
-const KIND_WIDTH: usize = 7;
-
-const RIGHT_WIDTH: usize = 2;
 
 // How many rows each table has so far.
 pub struct Counts {

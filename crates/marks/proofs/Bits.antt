@@ -1,14 +1,14 @@
 -- One bit of a number, and what setting one bit does to each place.
-use Prim.Native.Nat.{ℕ, zero, suc, _+_, _*_, _/_, _%_, _^_, _<_, _≤_, max}
-use mathlib.Core.Path.{_≡_, refl, sym, ap, ap₂, _∙_, subst, subst⁻¹}
-use mathlib.Core.Bool.{Bool, true, false, _||_}
+use Prim.Native.Nat.{ℕ, zero, suc, _*_, _/_, _%_, _^_, _<_}
+use mathlib.Core.Path.{_≡_, refl, sym, ap, _∙_}
+use mathlib.Core.Bool.{Bool, _||_}
 use mathlib.Core.Logic.{_≢_, _⊎_, inl, inr}
 use mathlib.Core.List.{List}
 use native.Mathlib.Omega.{arith}
-use native.Mathlib.Nat.{mod-lt, mod-eq-of-lt, mul-mod-left, mul-div-cancel, zero-div, zero-mod, mul-comm, pow-suc, div-div-eq-div-mul}
+use native.Mathlib.Nat.{mod-eq-of-lt, zero-div, mul-comm, pow-suc, div-div-eq-div-mul}
 use lib.Bits.{bitOr, or-shr, or-mod, or-lt}
-use lib.Pow.{pow-lt, pow-pos}
-use lib.Dec.{eqb, eqb-refl, T}
+use lib.Pow.{pow-lt}
+use lib.Dec.{eqb}
 use lib.ListN.{length, getD, set, length-set}
 use lib.Seq.{getD-set-same, getD-set-other}
 use borrow.Author.Tests.{eq-eqb, ne-eqb}

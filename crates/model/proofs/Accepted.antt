@@ -1,30 +1,30 @@
 -- What each accepted call leaves: a sound state, in which the active rows are the largest supported part of those held.
-use Prim.Native.Nat.{ℕ, _+_, _-_, _≤_, _<_}
-use mathlib.Core.Path.{_≡_, refl, sym, ap, _∙_, subst, subst⁻¹}
-use mathlib.Core.Bool.{Bool, true, false, not, _&&_}
-use mathlib.Core.List.{List, [], _∷_, _++_, List·Memᴰ, Sublistᴰ, Sublistᴰ·refl}
+use Prim.Native.Nat.{ℕ, _+_, _-_, _<_}
+use mathlib.Core.Path.{_≡_, refl, ap, _∙_, subst, subst⁻¹}
+use mathlib.Core.Bool.{not}
+use mathlib.Core.List.{List, [], _∷_, _++_, List·Memᴰ, Sublistᴰ·refl}
 use native.Mathlib.Omega.{arith}
-use lib.Dec.{T, eqb, ltb, leb, eqb→eq, ltb→lt, nleb→lt}
-use lib.ListN.{length, getD, replicate}
-use Rattle.model.specs.Lists.{any, every, all, allOverEarlier, without, firstPlace, isBit}
-use Rattle.model.specs.Limits.{users, roles, facts, mostRows, mostCertificates, stateSize}
-use Rattle.model.specs.Records.{Tables, Policy, State, World, worldOf, withRows, withCertificates, withFact}
-use Rattle.model.specs.Layout.{policyOf, decode, encode}
-use Rattle.model.specs.Conditions.{satisfied, supported, active, kindNumbered, ruleNumbered}
+use lib.Dec.{T, eqb, ltb, nleb→lt}
+use lib.ListN.{length, replicate}
+use Rattle.model.specs.Lists.{every, allOverEarlier, without, isBit}
+use Rattle.model.specs.Limits.{facts, mostRows, mostCertificates, stateSize}
+use Rattle.model.specs.Records.{Tables, Policy, State, worldOf, withRows, withFact}
+use Rattle.model.specs.Layout.{policyOf, decode}
+use Rattle.model.specs.Conditions.{satisfied, supported, ruleNumbered}
 use Rattle.model.specs.Left.{left, Supported, Largest}
-use Rattle.model.specs.Sound.{soundPolicy, sound, soundRecords, rowSound, sameCertificate, certificateClauses, certificateSound, formClauses}
-use Rattle.model.specs.Outcome.{judgedFirst, given}
-use Rattle.model.specs.Calls.{Call, fresh, activate, appoint, revoke, withdraw, environment, logout, invoke, effective, chain, isUser, isRole, isPrivilege, hasRow, stands, ofUser, nothing, settled, withoutCertificate, someRuleSatisfied, lowestRule, activateOn, appointOn, revokeOn, withdrawOn, environmentOn, logoutOn, invokeOn, effectiveOn, chainOn, freshOn, courseOf, answer}
+use Rattle.model.specs.Sound.{soundPolicy, sound, soundRecords, rowSound, sameCertificate, certificateClauses, formClauses}
+use Rattle.model.specs.Outcome.{judgedFirst}
+use Rattle.model.specs.Calls.{Call, fresh, activate, appoint, revoke, withdraw, environment, logout, invoke, effective, chain, isUser, isRole, hasRow, ofUser, nothing, settled, withoutCertificate, someRuleSatisfied, lowestRule, activateOn, appointOn, revokeOn, withdrawOn, environmentOn, logoutOn, invokeOn, effectiveOn, chainOn, freshOn, courseOf, answer}
 use Rattle.model.specs.declared.Row.{Row}
 use Rattle.model.specs.declared.Certificate.{Certificate}
 use Rattle.model.specs.Held.{held}
 use Rattle.model.specs.Words.{Fits, SoundState}
-use Rattle.model.proofs.Tests.{not-not, and-left, each, of-each, first-place, earlier-of}
+use Rattle.model.proofs.Tests.{not-not, each, of-each, first-place, earlier-of}
 use Rattle.model.proofs.Parts.{part-front, part-member, part-length, without-part}
 use Rattle.model.proofs.Sweep.{largest-whole, left-largest}
 use Rattle.model.proofs.Support.{active-grows, supported-grows, row-supported, Serves, support, ordered}
 use Rattle.model.proofs.Numbers.{sound-decode, sound-encode, decode-encode}
-use Rattle.model.proofs.Refusals.{Passed, Done, accepted-done, accepted-passed}
+use Rattle.model.proofs.Refusals.{Passed, accepted-done, accepted-passed}
 use Rattle.model.proofs.Kept.{sound-rows, row-added, granted-sound, certificate-added, fallen-sound, ByUser, users-gone, fact-fits}
 
 -- ── a sound state supports its rows, and taking from it leaves the largest part ──

@@ -3,7 +3,7 @@ use Prim.Native.Nat.{ℕ}
 use mathlib.Core.Path.{_≡_, refl, sym, ap, _∙_, subst, subst⁻¹}
 use mathlib.Core.Bool.{Bool, true, false, not, _&&_, _||_, cond}
 use mathlib.Core.Logic.{_↔_, _⊎_, inl, inr}
-use mathlib.Core.List.{List, [], _∷_, _++_, reverse, reverse-cons, reverse-reverse, append-nil, append-assoc, List·Memᴰ, List·Memᴰ·head, List·Memᴰ·tail, List·Memᴰ·cases-cons, List·Memᴰ·not-nil, List·Memᴰ·append-cases, List·Memᴰ·eq-of-singleton, Memᴰ·append-left, Memᴰ·append-right}
+use mathlib.Core.List.{List, [], _∷_, _++_, reverse, reverse-cons, reverse-reverse, append-nil, append-assoc, List·Memᴰ, List·Memᴰ·head, List·Memᴰ·tail, List·Memᴰ·cases-cons, List·Memᴰ·not-nil, Memᴰ·append-left, Memᴰ·append-right}
 use lib.Dec.{T, eqb}
 use Rattle.model.specs.Lists.{any, allOverEarlier}
 use Rattle.model.specs.Records.{Policy, State, World, worldOf}
@@ -13,10 +13,9 @@ use Rattle.model.specs.Effective.{direct, Carries, directly, through, ca
 use Rattle.model.specs.Calls.{allowed}
 use Rattle.model.specs.declared.Row.{Row}
 use Rattle.model.specs.Words.{SoundState}
-use Rattle.model.proofs.Tests.{and-left, and-right, and-both, or-left, or-right, or-cases, any-of, of-any, decide, refute, not-of, is-true, is-false, earlier-append}
-use Rattle.model.proofs.Support.{isRow-user, isRow-role, isRow-own, active-of, of-active, active-grows, rests-on-active, row-new, row-supported}
+use Rattle.model.proofs.Tests.{and-left, and-right, and-both, or-left, or-right, or-cases, any-of, of-any, decide, refute, not-of, is-true, is-false}
+use Rattle.model.proofs.Support.{isRow-user, isRow-role, of-active, active-grows, rests-on-active, row-new, row-supported}
 use Rattle.model.proofs.Kept.{sound-rows}
-use Rattle.model.proofs.Accepted.{sound-supported}
 
 -- sound rows, newest first: each is new to those before it and rests on roles active in them
 abbrev Stacked : Policy → List Row → Type 0

@@ -9,12 +9,12 @@ use lib.ListN.{length, replicate}
 use Rattle.model.specs.Lists.{all, filledTo}
 use Rattle.model.specs.Records.{Tables}
 use Rattle.model.specs.Layout.{policyOf, decode, encode}
-use Rattle.model.specs.Conditions.{Condition, meant, active, someStands, holds, satisfied, supported, rolesAsked, restsOn}
+use Rattle.model.specs.Conditions.{meant, active, someStands, holds, satisfied, supported, rolesAsked, restsOn}
 use Rattle.model.specs.Left.{left}
 use Rattle.model.specs.Sound.{conditionFits, ruleClauses, kindClauses, rightClauses, policyClauses, rowClauses, certificateClauses, formClauses, soundRecords, sound}
 use Rattle.model.specs.Effective.{direct, effectively}
-use Rattle.model.specs.Outcome.{Outcome, judgedFirst, decided}
-use Rattle.model.specs.Calls.{Call, fresh, activate, appoint, revoke, withdraw, environment, logout, invoke, effective, chain, settled, activateOn, appointOn, revokeOn, withdrawOn, environmentOn, logoutOn, allowed, invokeOn, effectiveOn, chainOn, freshOn, courseOf, answer}
+use Rattle.model.specs.Outcome.{judgedFirst, decided}
+use Rattle.model.specs.Calls.{Call, fresh, activate, appoint, revoke, withdraw, environment, logout, invoke, settled, activateOn, appointOn, revokeOn, withdrawOn, environmentOn, logoutOn, allowed, invokeOn, effectiveOn, chainOn, freshOn, courseOf, answer}
 
 -- a call, the code and the second number that are wanted of it
 record Step : Type 0 where

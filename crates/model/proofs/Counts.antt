@@ -1,11 +1,11 @@
 -- The second numbers add up: what a call reports lost is what the rows have lost, one by one and over any sequence of calls.
-use Prim.Native.Nat.{ℕ, zero, suc, _+_, _-_, _≤_}
-use mathlib.Core.Path.{_≡_, refl, sym, ap, _∙_, subst, subst⁻¹}
-use mathlib.Core.Bool.{Bool, true, false, cond}
+use Prim.Native.Nat.{ℕ, zero, suc, _+_, _-_}
+use mathlib.Core.Path.{_≡_, refl, ap}
+use mathlib.Core.Bool.{false}
 use mathlib.Core.Logic.{_≢_, _⊎_, inl, inr}
-use mathlib.Core.List.{List, [], _∷_, _++_, List·Permᴰ}
+use mathlib.Core.List.{List, [], _∷_}
 use native.Mathlib.Omega.{arith}
-use lib.Dec.{T, eqb, eqb→eq}
+use lib.Dec.{eqb}
 use lib.ListN.{length, length-append}
 use Rattle.model.specs.Lists.{without}
 use Rattle.model.specs.Records.{Tables, Policy, State, worldOf, withFact}
@@ -16,15 +16,12 @@ use Rattle.model.specs.Outcome.{Outcome, judgedFirst}
 use Rattle.model.specs.Calls.{Call, fresh, activate, appoint, revoke, withdraw, environment, logout, invoke, effective, chain, nothing, ofUser, withoutCertificate, settled, lowestRule, activateOn, appointOn, revokeOn, withdrawOn, environmentOn, logoutOn, invokeOn, effectiveOn, chainOn, freshOn, courseOf, answer}
 use Rattle.model.specs.Withdrawals.{Withdrawal, factFalse, certificateGone, loggedOut, callOf, run}
 use Rattle.model.specs.declared.Row.{Row}
-use Rattle.model.specs.declared.Certificate.{Certificate}
-use Rattle.model.specs.Words.{Sound, Unchanged, activeRows, SoundState}
+use Rattle.model.specs.Words.{Unchanged, activeRows}
 use Rattle.model.specs.Tally.{Made, Tally, grantedAfter, lostAfter, next, tallyFrom, tally}
 use Rattle.model.proofs.Parts.{part-length, without-part}
 use Rattle.model.proofs.Sweep.{left-part}
-use Rattle.model.proofs.Numbers.{decode-encode}
 use Rattle.model.proofs.Refusals.{refused-unchanged, accepted-done}
-use Rattle.model.proofs.Accepted.{nothing-sound, effect-decoded}
-use Rattle.model.proofs.Orders.{still-sound, run-rows, order-free}
+use Rattle.model.proofs.Accepted.{effect-decoded}
 
 accepted-or-refused : (n : ℕ) → (n ≡ 0) ⊎ (n ≢ 0)
 accepted-or-refused zero = inl refl

@@ -1,6 +1,6 @@
 -- When a role is granted, and when a privilege is. On sound tables.
 use Prim.Native.Nat.{ℕ, _<_, _≤_}
-use mathlib.Core.Path.{_≡_, refl, sym, ap, _∙_, subst, subst⁻¹}
+use mathlib.Core.Path.{_≡_, sym, ap, _∙_, subst, subst⁻¹}
 use mathlib.Core.Bool.{Bool, true, false, not, _&&_, cond}
 use mathlib.Core.Logic.{_↔_}
 use mathlib.Core.List.{List, [], _∷_, _++_, List·Memᴰ}
@@ -9,13 +9,13 @@ use lib.Dec.{T, eqb, leb, eqb→eq, eqb-refl, lt→ltb, leb→le}
 use lib.ListN.{length}
 use Rattle.model.specs.Lists.{any, every}
 use Rattle.model.specs.Limits.{users, roles, privileges, mostRows}
-use Rattle.model.specs.Records.{Tables, Policy, State, worldOf}
+use Rattle.model.specs.Records.{Tables, State, worldOf}
 use Rattle.model.specs.Layout.{policyOf, decode}
 use Rattle.model.specs.Conditions.{ruleNumbered, active, satisfied}
 use Rattle.model.specs.Sound.{soundPolicy, sound}
 use Rattle.model.specs.Effective.{direct, Carries, effectively}
 use Rattle.model.specs.Outcome.{judgedFirst}
-use Rattle.model.specs.Calls.{Call, activate, invoke, effective, isUser, isRole, isPrivilege, someRuleSatisfied, lowestRule, activateOn, invokeOn, effectiveOn, allowed, courseOf, answer}
+use Rattle.model.specs.Calls.{activate, invoke, effective, isUser, isRole, isPrivilege, someRuleSatisfied, lowestRule, activateOn, invokeOn, effectiveOn, allowed, courseOf, answer}
 use Rattle.model.specs.declared.Row.{Row}
 use Rattle.model.specs.Words.{Sound, SatisfiedNow, Granted, CarriedNow}
 use Rattle.model.proofs.Tests.{not-not, not-not-of, not-of, of-each, any-of, of-any, at-place, and-left, and-right, and-both, refute}

@@ -1,25 +1,24 @@
 -- What the calls do to a sound state leaves a sound state. One law for each way in which a state changes.
 use Prim.Native.Nat.{ℕ, zero, suc, _+_, _-_, _≤_, _<_}
-use mathlib.Core.Path.{_≡_, refl, sym, ap, _∙_, subst, subst⁻¹}
-use mathlib.Core.Bool.{Bool, true, false, not, _&&_}
+use mathlib.Core.Path.{_≡_, _∙_}
+use mathlib.Core.Bool.{Bool, not}
 use mathlib.Core.Logic.{_⊎_, inl, inr}
 use mathlib.Core.List.{List, [], _∷_, _++_, List·Memᴰ, List·Memᴰ·head, List·Memᴰ·tail, List·Memᴰ·cases-cons, List·Memᴰ·not-nil, Memᴰ·append-left, Sublistᴰ, Sublistᴰ·slnil}
 use native.Mathlib.Omega.{arith}
-use lib.Dec.{T, eqb, ltb, leb, eqb→eq, ltb→lt, lt→ltb, nleb→lt, leb→le}
-use lib.ListN.{length, getD, take, set, length-append, length-set}
-use Rattle.model.specs.Lists.{any, all, every, allOverEarlier, without, firstPlace, isBit}
+use lib.Dec.{T, eqb, ltb, lt→ltb, leb→le}
+use lib.ListN.{length, take, set, length-append, length-set}
+use Rattle.model.specs.Lists.{any, all, allOverEarlier, without, isBit}
 use Rattle.model.specs.Limits.{users, roles, facts, mostRows, mostCertificates}
 use Rattle.model.specs.Records.{Tables, Policy, State, World, worldOf, withRows, withCertificates, withFact}
 use Rattle.model.specs.Layout.{policyOf}
-use Rattle.model.specs.Conditions.{ruleNumbered, activating, membership, meant, active, isRow, holds, satisfied, supported, restsOn}
+use Rattle.model.specs.Conditions.{ruleNumbered, activating, membership, meant, active, isRow, holds, satisfied, supported}
 use Rattle.model.specs.Left.{left}
 use Rattle.model.specs.Sound.{ruleClauses, ruleFits, policyClauses, soundPolicy, rowSound, sameCertificate, certificateClauses, certificateSound, soundRecords}
-use Rattle.model.specs.Calls.{ofUser, someRuleSatisfied, lowestRule}
 use Rattle.model.specs.declared.Rule.{Rule}
 use Rattle.model.specs.declared.Row.{Row}
 use Rattle.model.specs.declared.Certificate.{Certificate}
 use Rattle.model.specs.Words.{Fits, SoundState}
-use Rattle.model.proofs.Tests.{and-left, and-right, and-both, refute, not-of, decide, any-map, all-of, of-all, each, of-each, at-place, first-place, earlier-last, earlier-map}
+use Rattle.model.proofs.Tests.{and-left, and-right, and-both, refute, not-of, any-map, all-of, of-all, each, of-each, at-place, earlier-last, earlier-map}
 use Rattle.model.proofs.Parts.{part-member, part-length, without-part, without-keeps, earlier-part, earlier-without}
 use Rattle.model.proofs.Sweep.{left-part, left-earlier}
 use Rattle.model.proofs.Support.{active-of, of-active, active-grows, isRow-user, supported-grows, row-user, row-role, row-new, row-rule, row-target, row-supported, row-sound, Less, less-supports}

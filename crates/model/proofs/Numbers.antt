@@ -1,19 +1,18 @@
 -- Numbers and values are the same thing said twice: decoding what was encoded gives the value back, encoding what was decoded gives
 -- the numbers back, and a state of numbers is sound exactly if its value is.
-use Prim.Native.Nat.{ℕ, zero, suc, _+_, _*_, _-_, _≤_, _<_}
-use mathlib.Core.Path.{_≡_, refl, sym, ap, _∙_, subst, subst⁻¹}
-use mathlib.Core.Bool.{Bool, true, false, _&&_}
-use mathlib.Core.List.{List, [], _∷_, _++_, map, append-assoc, List·Memᴰ}
+use Prim.Native.Nat.{ℕ, zero, suc, _+_, _*_, _-_, _≤_}
+use mathlib.Core.Path.{_≡_, refl, sym, ap, _∙_, subst⁻¹}
+use mathlib.Core.List.{List, [], _∷_, _++_, map, append-assoc}
 use native.Mathlib.Omega.{arith}
 use native.Mathlib.Nat.{suc-mul, zero-mul, add-comm}
 use native.Mathlib.Numerals.{add-one}
-use lib.Dec.{T, eqb, leb, eqb→eq, eqb-refl, leb→le, le→leb}
-use lib.ListN.{length, getD, take, drop, replicate, length-append, length-take, length-drop, length-replicate, take-append-drop}
+use lib.Dec.{T, eqb, leb, eqb→eq, leb→le, le→leb}
+use lib.ListN.{length, getD, take, drop, replicate, length-append, length-drop, length-replicate, take-append-drop}
 use lib.Seq.{take-at, drop-at, getD-at, split-at, drop-cons, drop-drop, take-add, take-all, length-take-le}
-use Rattle.model.specs.Lists.{every, all, allOverEarlier, joined, isZero, isBit, filledTo, rowsOf}
+use Rattle.model.specs.Lists.{all, joined, isZero, isBit, filledTo, rowsOf}
 use Rattle.model.specs.Limits.{facts, mostRows, rowWidth, mostCertificates, certificateWidth, stateSize}
 use Rattle.model.specs.Records.{Policy, State}
-use Rattle.model.specs.Layout.{number, rowFrom, certificateFrom, fromRow, fromCertificate, decode, encode, rowCount, certificateCount, factNumbers, rowNumbers, certificateNumbers, rowCountAt, rowsAt, certificateCountAt, certificatesAt}
+use Rattle.model.specs.Layout.{rowFrom, certificateFrom, fromRow, fromCertificate, decode, encode, rowCount, certificateCount, factNumbers, rowNumbers, certificateNumbers, rowsAt, certificatesAt}
 use Rattle.model.specs.Sound.{formClauses, wellFormed, soundRecords, sound}
 use Rattle.model.specs.declared.Row.{Row}
 use Rattle.model.specs.declared.Certificate.{Certificate}

@@ -1,36 +1,36 @@
 -- Withdrawals in any order. What a list leaves is what taking all of it away at once leaves, by the order theory of largest
 -- supported parts and not by cases on pairs of calls.
-use Prim.Native.Nat.{ℕ, zero, suc, _+_, _-_, _≤_, _<_}
+use Prim.Native.Nat.{ℕ, zero, suc, _+_, _-_, _≤_}
 use mathlib.Core.Path.{_≡_, refl, sym, ap, _∙_, subst, subst⁻¹}
-use mathlib.Core.Bool.{Bool, true, false, not, _&&_, _||_, cond}
+use mathlib.Core.Bool.{Bool, true, false, not, _||_}
 use mathlib.Core.Logic.{_≢_, _⊎_, inl, inr}
 use mathlib.Core.List.{List, [], _∷_, _++_, List·Memᴰ, List·Permᴰ, Sublistᴰ}
 use native.Mathlib.Omega.{arith}
-use lib.Dec.{T, eqb, ltb, eqb→eq, eqb-refl, lt→ltb, ltb→lt}
-use lib.ListN.{length, set}
+use lib.Dec.{T, eqb, ltb, eqb→eq}
+use lib.ListN.{set}
 use lib.Seq.{set-out}
-use Rattle.model.specs.Lists.{any, every, all, allOverEarlier, without, isBit}
-use Rattle.model.specs.Limits.{users, facts}
+use Rattle.model.specs.Lists.{every, without, isBit}
+use Rattle.model.specs.Limits.{facts}
 use Rattle.model.specs.Records.{Tables, Policy, State, worldOf, withRows, withFact}
 use Rattle.model.specs.Layout.{policyOf, decode, encode}
 use Rattle.model.specs.Conditions.{supported}
 use Rattle.model.specs.Left.{left, Largest}
 use Rattle.model.specs.Sound.{soundPolicy, sound, rowSound, sameCertificate, certificateClauses, certificateSound}
 use Rattle.model.specs.Outcome.{judgedFirst}
-use Rattle.model.specs.Calls.{Call, environment, withdraw, logout, isUser, hasRow, stands, ofUser, withoutCertificate, settled, environmentOn, withdrawOn, logoutOn, courseOf, answer}
-use Rattle.model.specs.Withdrawals.{Withdrawal, factFalse, certificateGone, loggedOut, callOf, run, namesFact, namesCertificate, namesUserOf, factsLeft, takenAway, allAtOnce}
+use Rattle.model.specs.Calls.{environment, withdraw, logout, isUser, hasRow, stands, ofUser, withoutCertificate, settled, environmentOn, withdrawOn, logoutOn, courseOf, answer}
+use Rattle.model.specs.Withdrawals.{Withdrawal, factFalse, certificateGone, loggedOut, callOf, run, namesUserOf, takenAway, allAtOnce}
 use Rattle.model.specs.declared.Row.{Row}
 use Rattle.model.specs.declared.Certificate.{Certificate}
 use Rattle.model.specs.Words.{Sound, SoundState}
-use Rattle.model.proofs.Tests.{decide, refute, not-of, not-not-of, and-left, each, of-each, any-of, of-any, earlier-of, earlier-map, is-false}
-use Rattle.model.proofs.Parts.{without-none, without-same, without-member, part-member, part-front, without-part}
+use Rattle.model.proofs.Tests.{decide, refute, not-of, not-not-of, each, of-each, any-of, of-any, earlier-of, earlier-map}
+use Rattle.model.proofs.Parts.{without-none, without-same, part-member, part-front}
 use Rattle.model.proofs.Sweep.{left-whole, in-turn-or-at-once, less-keeps-more}
 use Rattle.model.proofs.Support.{less-supports, row-supported, row-user}
 use Rattle.model.proofs.Numbers.{sound-decode, sound-formed, encode-decode, decode-encode}
-use Rattle.model.proofs.Refusals.{Passed, refused-unchanged, passed-accepted}
+use Rattle.model.proofs.Refusals.{refused-unchanged, passed-accepted}
 use Rattle.model.proofs.Kept.{sound-rows, sound-certificates, rows-without-user, users-gone}
 use Rattle.model.proofs.Accepted.{fallen-largest, by-user, effect-decoded, accepted-sound}
-use Rattle.model.proofs.Taken.{Within, goneRow, gone-by-user, any-order, facts-one, facts-unnamed, facts-same, taken-facts, taken-certificates, taken-rows, taken-rows-sound, taken-less, taken-same, unnamed, all-at-once-sound, all-at-once-largest}
+use Rattle.model.proofs.Taken.{Within, goneRow, gone-by-user, any-order, facts-one, facts-unnamed, taken-facts, taken-certificates, taken-rows, taken-less, taken-same, unnamed, all-at-once-sound, all-at-once-largest}
 
 -- ── two lists in turn ──
 

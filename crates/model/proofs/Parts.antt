@@ -1,16 +1,16 @@
 -- Parts of a list, in its order: what a part inherits, and what is left when some elements are taken out.
-use Prim.Native.Nat.{ℕ, suc, _≤_}
-use mathlib.Core.Path.{_≡_, refl, sym, ap, _∙_, subst, subst⁻¹}
-use mathlib.Core.Bool.{Bool, true, false, not, _&&_, cond}
+use Prim.Native.Nat.{suc, _≤_}
+use mathlib.Core.Path.{_≡_, refl, ap, _∙_, subst, subst⁻¹}
+use mathlib.Core.Bool.{Bool, true, false, not, cond}
 use mathlib.Core.Logic.{_⊎_, inl, inr}
-use mathlib.Core.List.{List, [], _∷_, _++_, append-assoc, append-nil, List·Memᴰ, List·Memᴰ·head, List·Memᴰ·tail, List·Memᴰ·cases-cons, List·Memᴰ·not-nil}
+use mathlib.Core.List.{List, [], _∷_, _++_, append-nil, List·Memᴰ, List·Memᴰ·head, List·Memᴰ·tail, List·Memᴰ·cases-cons, List·Memᴰ·not-nil}
 use mathlib.Core.List.{Sublistᴰ, Sublistᴰ·slnil, Sublistᴰ·cons, Sublistᴰ·cons-cons, Sublistᴰ·refl, Sublistᴰ·nil-sublist, Sublistᴰ·eq-nil, Sublistᴰ·cases-cons, Sublistᴰ·trans, Sublistᴰ·append, Sublistᴰ·length-le, Sublistᴰ·eq-of-length}
 use mathlib.Core.Nat.{le-antisymm}
 use native.Mathlib.Omega.{arith}
 use lib.Dec.{T}
 use lib.ListN.{length}
 use Rattle.model.specs.Lists.{allOverEarlier, without}
-use Rattle.model.proofs.Tests.{and-left, and-right, and-both, refute, is-false, decide, of-true, of-false}
+use Rattle.model.proofs.Tests.{and-left, and-right, and-both, refute, decide, of-true, of-false}
 
 module _ {A : Type 0} where
   pub part-antisym : (xs ys : List A) → Sublistᴰ xs ys → Sublistᴰ ys xs → xs ≡ ys

@@ -1,19 +1,17 @@
 -- How a code is chosen: it is that of the first refusal that applies, a refusal changes nothing, and an accepted call has its effect.
 use Prim.Native.Nat.{ℕ, zero, suc}
-use mathlib.Core.Path.{_≡_, refl, sym, ap, _∙_, subst, subst⁻¹}
+use mathlib.Core.Path.{_≡_, refl, sym, _∙_, subst⁻¹}
 use mathlib.Core.Bool.{Bool, true, false, not, cond}
-use mathlib.Core.Logic.{_≢_, _⊎_, inl, inr}
+use mathlib.Core.Logic.{_≢_}
 use mathlib.Core.List.{List, [], _∷_}
-use native.Mathlib.Omega.{arith}
-use lib.Dec.{T, eqb, eqb→eq}
+use lib.Dec.{T}
 use Rattle.model.specs.Lists.{all, isZero}
 use Rattle.model.specs.Records.{Tables}
-use Rattle.model.specs.Layout.{policyOf, encode}
-use Rattle.model.specs.Sound.{soundPolicy, sound}
-use Rattle.model.specs.Outcome.{Outcome, Refusal, firstCode, Effect, Course, judgedFirst, decided, given, Keeps}
+use Rattle.model.specs.Layout.{encode}
+use Rattle.model.specs.Outcome.{Outcome, Refusal, firstCode, Effect, judgedFirst, decided, Keeps}
 use Rattle.model.specs.Calls.{Call, fresh, activate, appoint, revoke, withdraw, environment, logout, invoke, effective, chain, activateOn, appointOn, revokeOn, withdrawOn, environmentOn, logoutOn, invokeOn, effectiveOn, chainOn, freshOn, courseOf, answer}
 use Rattle.model.specs.Words.{FirstApplies, none, here, later, Unchanged}
-use Rattle.model.proofs.Tests.{and-left, and-right, of-true, of-false, is-false, refute}
+use Rattle.model.proofs.Tests.{and-left, and-right, of-true, of-false, refute}
 
 -- ── any list of refusals ──
 

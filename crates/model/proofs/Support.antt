@@ -1,13 +1,13 @@
 -- What it takes to support a row, and that the definitions meet what the order theory asks: more rows and a richer state support no
 -- less, and in a sound state a row is served only by rows before it.
 use Prim.Native.Nat.{ℕ}
-use mathlib.Core.Path.{_≡_, refl, sym, ap, _∙_, subst, subst⁻¹}
+use mathlib.Core.Path.{_≡_, refl, subst, subst⁻¹}
 use mathlib.Core.Bool.{Bool, true, false, not, _&&_}
 use mathlib.Core.Logic.{_⊎_, inl, inr}
-use mathlib.Core.List.{List, [], _∷_, _++_, append-assoc, List·Memᴰ, List·Memᴰ·head, List·Memᴰ·tail, List·Memᴰ·cases-cons, List·Memᴰ·not-nil, List·Memᴰ·append-cases, List·Memᴰ·eq-of-singleton, Memᴰ·append-left, Memᴰ·append-right, Sublistᴰ}
-use lib.Dec.{T, eqb, ltb, eqb→eq, eqb-refl, ltb→lt}
+use mathlib.Core.List.{List, [], _∷_, _++_, List·Memᴰ, List·Memᴰ·head, List·Memᴰ·tail, List·Memᴰ·cases-cons, List·Memᴰ·not-nil, List·Memᴰ·append-cases, List·Memᴰ·eq-of-singleton, Memᴰ·append-left, Memᴰ·append-right}
+use lib.Dec.{T, eqb, ltb, eqb→eq, eqb-refl}
 use lib.ListN.{length, getD}
-use Rattle.model.specs.Lists.{any, all, every, allOverEarlier, joined}
+use Rattle.model.specs.Lists.{all, allOverEarlier, joined}
 use Rattle.model.specs.Records.{Policy, State, World, worldOf}
 use Rattle.model.specs.Conditions.{Condition, role, kind, fact, malformed, meant, ruleNumbered, kindNumbered, membership, prerequisiteRoles, isRow, active, someStands, holds, supported, rolesAsked, restsOn}
 use Rattle.model.specs.Sound.{rowClauses, rowSound}

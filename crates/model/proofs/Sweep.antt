@@ -9,7 +9,7 @@ use mathlib.Core.List.{Sublistᴰ, Sublistᴰ·slnil, Sublistᴰ·cons, Sublist�
 use lib.Dec.{T}
 use Rattle.model.specs.Lists.{allOverEarlier, without}
 use Rattle.model.specs.Left.{keep, sweep, left, Supported, Largest}
-use Rattle.model.proofs.Tests.{of-true, and-left, and-right, and-both, earlier-last}
+use Rattle.model.proofs.Tests.{of-true, and-left, and-right, earlier-last}
 use Rattle.model.proofs.Parts.{part-antisym, part-member, part-front, without-part, without-member, part-without}
 
 module _ {A : Type 0} where

@@ -2,9 +2,9 @@
 -- taking away two lists in turn is taking away both at once. All at once then leaves a sound state.
 use Prim.Native.Nat.{ℕ, zero, suc, _+_, _-_, _≤_, _<_}
 use mathlib.Core.Path.{_≡_, refl, sym, ap, _∙_, subst, subst⁻¹}
-use mathlib.Core.Bool.{Bool, true, false, not, _&&_, _||_, cond}
-use mathlib.Core.Logic.{_⊎_, inl, inr}
-use mathlib.Core.List.{List, [], _∷_, _++_, List·Memᴰ, Sublistᴰ, Sublistᴰ·refl, Sublistᴰ·trans}
+use mathlib.Core.Bool.{Bool, true, false, not, _||_, cond}
+use mathlib.Core.Logic.{_⊎_}
+use mathlib.Core.List.{List, [], _∷_, _++_, List·Memᴰ, Sublistᴰ}
 use mathlib.Core.List.{List·Permᴰ, List·Permᴰ·nil, List·Permᴰ·cons, List·Permᴰ·swap, List·Permᴰ·trans}
 use native.Mathlib.Omega.{arith}
 use lib.Dec.{T, eqb, eqb→eq, eqb-refl}
@@ -12,18 +12,17 @@ use lib.ListN.{length, getD, set}
 use Rattle.model.specs.Lists.{any, all, allOverEarlier, without, isBit}
 use Rattle.model.specs.Records.{Policy, State, worldOf, withRows}
 use Rattle.model.specs.Conditions.{supported}
-use Rattle.model.specs.Left.{left, Largest}
-use Rattle.model.specs.Sound.{rowSound, sameCertificate}
+use Rattle.model.specs.Left.{Largest}
+use Rattle.model.specs.Sound.{rowSound}
 use Rattle.model.specs.Withdrawals.{Withdrawal, factFalse, certificateGone, loggedOut, namesFact, namesCertificate, namesUserOf, factsLeft, takenAway, allAtOnce}
 use Rattle.model.specs.declared.Row.{Row}
 use Rattle.model.specs.declared.Certificate.{Certificate}
 use Rattle.model.specs.Words.{Fits, SoundState}
-use Rattle.model.proofs.Tests.{and-left, and-right, and-both, or-left, or-right, or-cases, refute, not-of, is-false, same-test, any-of, of-any, any-map, any-append}
-use Rattle.model.proofs.Parts.{part-member, part-front, part-length, without-part, without-member, without-keeps, without-same, without-twice, without-none, part-antisym}
-use Rattle.model.proofs.Sweep.{left-whole, in-turn-or-at-once, less-keeps-more}
-use Rattle.model.proofs.Support.{Less, less-supports, row-supported}
+use Rattle.model.proofs.Tests.{and-left, and-right, and-both, or-left, or-right, or-cases, refute, not-of, is-false, any-map, any-append}
+use Rattle.model.proofs.Parts.{part-member, part-length, without-part, without-member, without-keeps, without-same, without-twice}
+use Rattle.model.proofs.Support.{Less}
 use Rattle.model.proofs.Kept.{sound-rows, fallen-sound, ByUser, rows-without-user}
-use Rattle.model.proofs.Accepted.{fallen-largest, sound-supported}
+use Rattle.model.proofs.Accepted.{fallen-largest}
 
 -- ── what one list names, another names ──
 

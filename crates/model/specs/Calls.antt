@@ -1,12 +1,12 @@
 -- The ten calls. "The calls" and "Codes and their order": for each call its refusals in their order, and what it does.
 use Prim.Native.Nat.{ℕ, suc, _-_}
-use mathlib.Core.Bool.{Bool, true, false, not, _&&_, cond}
+use mathlib.Core.Bool.{Bool, false, not, _&&_, cond}
 use mathlib.Core.List.{List, [], _∷_, _++_}
 use lib.Dec.{eqb, ltb, leb}
 use lib.ListN.{length, replicate}
 use Rattle.model.specs.Lists.{every, any, without, firstPlace, isBit, filledTo}
 use Rattle.model.specs.Limits.{users, roles, privileges, facts, mostRows, mostCertificates, stateSize, listSize, unsoundState, outOfRange, alreadyActive, noRuleSatisfied, tableFull, notInAppointerRole, standsAlready, noSuchCertificate, mayNotRevoke, writtenTwice, notActive}
-use Rattle.model.specs.Records.{Tables, Policy, State, World, worldOf, withRows, withCertificates, withFact}
+use Rattle.model.specs.Records.{Tables, Policy, State, worldOf, withRows, withCertificates, withFact}
 use Rattle.model.specs.Conditions.{kindNumbered, active, satisfied, supported}
 use Rattle.model.specs.Left.{left}
 use Rattle.model.specs.Sound.{sameCertificate}

@@ -1,6 +1,6 @@
 -- What a condition is, and when it holds for a user. "Condition: ..", "When a condition holds for a user", definitions 3 to 8.
 use Prim.Native.Nat.{ℕ, _-_}
-use mathlib.Core.Bool.{Bool, true, false, _&&_, cond}
+use mathlib.Core.Bool.{Bool, false, _&&_, cond}
 use mathlib.Core.List.{List, [], _∷_}
 use lib.Dec.{eqb, ltb}
 use lib.ListN.{getD, take, replicate}

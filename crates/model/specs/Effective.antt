@@ -1,6 +1,5 @@
 -- The privileges that a role carries. Definition 10, as it is read and as it is computed.
 use Prim.Native.Nat.{ℕ}
-use mathlib.Core.Path.{_≡_}
 use mathlib.Core.Bool.{Bool, false, _&&_, _||_, cond}
 use mathlib.Core.List.{List, [], _∷_, reverse, List·Memᴰ}
 use lib.Dec.{T, eqb}

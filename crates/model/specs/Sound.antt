@@ -1,11 +1,11 @@
 -- When a policy is sound, and when a state is. "Numbers and tables", clause by clause.
-use Prim.Native.Nat.{ℕ, _*_, _-_, _%_}
+use Prim.Native.Nat.{ℕ, _*_, _%_}
 use mathlib.Core.Bool.{Bool, true, false, not, _&&_}
 use mathlib.Core.List.{List, [], _∷_}
 use lib.Dec.{eqb, ltb, leb}
 use lib.ListN.{length, drop}
 use Rattle.model.specs.Lists.{every, any, all, allOverEarlier, isZero, isBit}
-use Rattle.model.specs.Limits.{users, roles, privileges, facts, mostRules, ruleWidth, mostConditions, mostKinds, kindWidth, mostPrerequisites, modes, mostRights, rightWidth, mostRows, rowWidth, mostCertificates, certificateWidth, stateSize}
+use Rattle.model.specs.Limits.{users, roles, privileges, mostRules, ruleWidth, mostConditions, mostKinds, kindWidth, mostPrerequisites, modes, mostRights, rightWidth, mostRows, rowWidth, mostCertificates, certificateWidth, stateSize}
 use Rattle.model.specs.Records.{Tables, Policy, State, World, worldOf}
 use Rattle.model.specs.Layout.{policyOf, decode, rowCount, certificateCount, factNumbers, rowNumbers, certificateNumbers}
 use Rattle.model.specs.Conditions.{Condition, role, kind, fact, malformed, meant, activating, prerequisiteRoles, ruleNumbered, active, supported}

@@ -1,6 +1,6 @@
 -- "From fresh, under one policy, activations accepted less roles reported lost equals the active count": the two counts.
 use Prim.Native.Nat.{ℕ, _+_}
-use mathlib.Core.Bool.{Bool, cond}
+use mathlib.Core.Bool.{cond}
 use mathlib.Core.List.{List, [], _∷_}
 use lib.Dec.{eqb}
 use Rattle.model.specs.Limits.{accepted}

@@ -6,11 +6,9 @@ use mathlib.Core.List.{List, [], _∷_}
 use lib.Dec.{eqb}
 use Rattle.model.specs.Lists.{any, without}
 use Rattle.model.specs.Records.{Tables, Policy, State, worldOf, withRows}
-use Rattle.model.specs.Layout.{policyOf, decode, encode}
 use Rattle.model.specs.Conditions.{supported}
 use Rattle.model.specs.Left.{left}
 use Rattle.model.specs.Sound.{sameCertificate}
-use Rattle.model.specs.Outcome.{Outcome}
 use Rattle.model.specs.Calls.{Call, withdraw, environment, logout, ofUser, answer}
 use Rattle.model.specs.declared.Row.{Row}
 use Rattle.model.specs.declared.Certificate.{Certificate}

@@ -13,7 +13,6 @@ use Rattle.model.specs.Conditions.{ruleNumbered, satisfied}
 use Rattle.model.specs.Sound.{soundPolicy, soundRecords, sound}
 use Rattle.model.specs.Effective.{direct}
 use Rattle.model.specs.Outcome.{Refusal, Outcome}
-use Rattle.model.specs.Calls.{activate, answer}
 use Rattle.model.specs.declared.Row.{Row}
 
 -- policy and state are sound

@@ -1,4 +1,33 @@
-// The values that contracts name. Everything that they mean stands in specs/.
+// The values that contracts name, and the numbers that code goes by. Everything that they mean stands in specs/.
+
+// "Users 0 to 4,095; roles 0 to 255; privileges 0 to 1,023"
+pub const USERS: u16 = 4096;
+
+pub const ROLES: u16 = 256;
+
+pub const PRIVILEGES: u16 = 1024;
+
+// How many numbers a row of each table has.
+pub const RULE_WIDTH: usize = 11;
+
+pub const KIND_WIDTH: usize = 7;
+
+pub const RIGHT_WIDTH: usize = 2;
+
+pub const ROW_WIDTH: usize = 3;
+
+pub const CERTIFICATE_WIDTH: usize = 3;
+
+// Where the tables of a state stand, and how many numbers it has.
+pub const STATE_SIZE: usize = 1602;
+
+pub const ROW_COUNT: usize = 64;
+
+pub const ROWS: usize = 65;
+
+pub const CERTIFICATE_COUNT: usize = 833;
+
+pub const CERTIFICATES: usize = 834;
 
 // A row of the rules: "target role, n, m, then eight conditions".
 pub struct Rule {

@@ -3,11 +3,11 @@ use Prim.Native.Nat.{ℕ, zero, suc, _+_, _/_, _≤_, _<_}
 use mathlib.Core.Path.{_≡_, refl, sym, ap, _∙_}
 use mathlib.Core.Bool.{Bool, true, false, _&&_}
 use mathlib.Core.Logic.{_⊎_, inl, inr}
-use mathlib.Core.List.{List, [], _∷_, _++_}
+use mathlib.Core.List.{List, [], _∷_}
 use native.Mathlib.Omega.{arith}
 use native.Mathlib.Nat.{div-eq-of-lt, le-div-iff-mul-le}
 use native.Mathlib.Numerals.{add-one}
-use lib.Bits.{bitOr, bitAnd, or-add-and, and-le-l, and-comm}
+use lib.Bits.{bitOr, or-add-and, and-le-l, and-comm}
 use lib.Dec.{eqb, ltb}
 use lib.ListN.{length, getD, take, drop, length-drop}
 use lib.Seq.{take-suc, getD-drop}
@@ -16,9 +16,9 @@ use Rattle.model.specs.Lists.{all, isZero}
 use Rattle.model.specs.Layout.{rightFrom}
 use Rattle.model.specs.Sound.{rightClauses, rightFits}
 use Rattle.model.specs.declared.Right.{Right}
-use Rattle.model.proofs.Tests.{lt-or-ge}
+use Rattle.model.proofs.Tests.{all-append, lt-or-ge}
 use Rattle.table.specs.Entries.{entries, entry, rightAt}
-use Rattle.table.proofs.Entries.{all-append, entries-more}
+use Rattle.table.proofs.Entries.{entries-more}
 use Rattle.policy.proofs.Clauses.{and-true}
 
 pub join-zero : (a b : ℕ) → eqb (bitOr a b) 0 ≡ (eqb a 0 && eqb b 0)

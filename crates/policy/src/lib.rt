@@ -11,18 +11,13 @@ ghost use Rattle.model.specs.Conditions.{meant};
 ghost use Rattle.model.specs.Sound.{conditionFits, ruleFits, kindFits, rightFits, soundPolicy};
 ghost use Rattle.table.specs.Entries.{ruleAt, kindAt, without-rights};
 ghost use Rattle.policy.specs.Lent.{lent, kindsOnly};
-
-const ROLES: u16 = 256;
-
-const PRIVILEGES: u16 = 1024;
+use model::KIND_WIDTH;
+use model::PRIVILEGES;
+use model::RIGHT_WIDTH;
+use model::ROLES;
+use model::RULE_WIDTH;
 
 const MODES: u16 = 3;
-
-const RULE_WIDTH: usize = 11;
-
-const KIND_WIDTH: usize = 7;
-
-const RIGHT_WIDTH: usize = 2;
 
 // The numbers from a place on, as many as are asked for, are zero. They are joined and looked at once, so that the loop has no way out
 // but its end and the machine may take several numbers in one step.

@@ -14,7 +14,7 @@ use Rattle.model.specs.Records.{Tables}
 use Rattle.model.specs.Layout.{policyOf}
 use Rattle.model.specs.Conditions.{role, meant, isRow, membership, ruleNumbered, rolesAsked, restsOn}
 use Rattle.model.specs.declared.Row.{Row}
-use Rattle.model.proofs.Tests.{is-true, of-true, any-append, of-any, at-place}
+use Rattle.model.proofs.Tests.{or-later, is-true, of-true, any-append, of-any, at-place}
 use Rattle.model.proofs.Support.{isRow-role}
 use Rattle.model.proofs.Carried.{reverse-last}
 use Rattle.table.specs.Entries.{rowAt, firstRows, without-rights}
@@ -123,11 +123,7 @@ module _ (rules kinds : List ℕ) (having : List Bool) (s : List ℕ) (u : ℕ) 
   pub row-hit : (k m i : ℕ) (row : Row) (cs : List ℕ) → row ≡ rowAt s k → take m cs ≡ membership (ruleNumbered (policyOf (without-rights rules [])) (row .rule)) → i < m → i < length cs → conditionReaches tables having s u k (getD cs i 0) ≡ true → true ≡ rowReaches tables having s u k
   row-hit k m i row cs e f h l c =
       let some : any (conditionReaches tables having s u k) (take m cs) ≡ true = any-take-hit (conditionReaches tables having s u k) cs 0 m i h l c in
-      sym (row-conditions tables having s u k ∙ or-right (hasRight having (rowAt s k .role)) (any (conditionReaches tables having s u k) (membership (ruleNumbered (policyOf tables) (rowAt s k .rule)))) (ap (any (conditionReaches tables having s u k)) (sym (own-conditions k m row cs e f)) ∙ some))
-    where
-      or-right : (a b : Bool) → b ≡ true → (a || b) ≡ true
-      or-right true b q = refl
-      or-right false b q = q
+      sym (row-conditions tables having s u k ∙ or-later (hasRight having (rowAt s k .role)) (any (conditionReaches tables having s u k) (membership (ruleNumbered (policyOf tables) (rowAt s k .rule)))) (ap (any (conditionReaches tables having s u k)) (sym (own-conditions k m row cs e f)) ∙ some))
 
   pub row-none : (k m i : ℕ) (row : Row) (cs : List ℕ) → row ≡ rowAt s k → take m cs ≡ membership (ruleNumbered (policyOf (without-rights rules [])) (row .rule)) → i ≤ m → m ≤ i
       → hasRight having (row .role) ≡ false → any (conditionReaches tables having s u k) (take i cs) ≡ false → rowReaches tables having s u k ≡ false

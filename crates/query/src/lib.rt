@@ -10,14 +10,10 @@ ghost use Rattle.table.specs.Entries.{without-rights};
 ghost use Rattle.inner.specs.Lent.{lent, Answers, AnswersWith};
 ghost use Rattle.query.specs.Reached.{conditionReaches, rowReaches, Clean};
 use model::Answer;
-
-const USERS: u16 = 4096;
-
-const ROLES: u16 = 256;
-
-const PRIVILEGES: u16 = 1024;
-
-const ROW_COUNT: usize = 64;
+use model::PRIVILEGES;
+use model::ROLES;
+use model::ROW_COUNT;
+use model::USERS;
 
 const LIST_SIZE: usize = 256;
 

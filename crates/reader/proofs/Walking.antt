@@ -8,7 +8,7 @@ use lib.ListN.{length, getD, take, drop, drop-of-length-le}
 use lib.Seq.{take-nil, drop-length}
 use Rattle.program.specs.Text.{records, unquoted, said}
 use Rattle.program.specs.Lines.{lineOf}
-use Rattle.text.specs.Places.{part, atCrlf, recordEnd, fieldEnd}
+use Rattle.text.specs.Places.{part, recordEnd, fieldEnd}
 use Rattle.text.proofs.Ends.{records-next, fields-next}
 use Rattle.reader.specs.Reading.{recordAt, firstFieldAt, lineAt, nextAt}
 

@@ -8,9 +8,8 @@ ghost use Rattle.model.specs.Layout.{policyOf};
 ghost use Rattle.model.specs.Conditions.{meant, membership, ruleNumbered, rolesAsked, restsOn};
 ghost use Rattle.table.specs.Entries.{without-rights};
 ghost use Rattle.rests.specs.Newest.{newest};
+use model::ROLES;
 use model::Row;
-
-const ROLES: u16 = 256;
 
 // The roles that a condition asks for: the first `count` of four.
 pub struct Asked {

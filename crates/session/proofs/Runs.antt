@@ -7,13 +7,10 @@ use native.Mathlib.Omega.{arith}
 use native.Mathlib.Numerals.{add-one}
 use lib.Dec.{T, ltb→lt}
 use lib.ListN.{length, take, drop, length-take, length-drop}
-use lib.Seq.{length-take-le}
 use Rattle.model.specs.Lists.{every}
 use Rattle.model.specs.Records.{Tables}
 use Rattle.model.specs.Layout.{policyOf}
 use Rattle.model.specs.Sound.{soundPolicy, sound}
-use Rattle.model.specs.Outcome.{Outcome}
-use Rattle.model.specs.Calls.{answer}
 use Rattle.model.specs.declared.Answer.{Answer}
 use Rattle.model.proofs.Tests.{of-true, each}
 use Rattle.program.specs.Text.{said}
@@ -24,7 +21,7 @@ use Rattle.program.specs.declared.Line.{Line}
 use Rattle.text.specs.Places.{part, recordEnd}
 use Rattle.text.proofs.Ends.{record-within}
 use Rattle.reader.specs.Reading.{recordAt, lineAt, nextAt}
-use Rattle.reader.proofs.Walking.{lines-from, none-from, next-behind, next-within}
+use Rattle.reader.proofs.Walking.{lines-from, none-from, next-within}
 use Rattle.writer.specs.Writing.{Wrote}
 use Rattle.writer.proofs.Sizes.{answer-short, bad-short}
 use Rattle.writer.proofs.Records.{event-length}

@@ -1,26 +1,17 @@
 -- The whole program: too long an input, and one that is loaded and then run.
-use Prim.Native.Nat.{ℕ, _+_, _*_, _≤_, _<_}
-use mathlib.Core.Path.{_≡_, refl, sym, ap, _∙_}
+use Prim.Native.Nat.{ℕ, _≤_, _<_}
+use mathlib.Core.Path.{sym, ap, _∙_}
 use mathlib.Core.Bool.{Bool, cond}
 use mathlib.Core.List.{List, []}
 use native.Mathlib.Omega.{arith}
-use lib.Dec.{T}
 use lib.ListN.{length, replicate}
 use borrow.Author.Tests.{lt-ltb, le-ltb}
-use Rattle.model.specs.Records.{Policy}
-use Rattle.model.specs.Layout.{decode}
-use Rattle.model.specs.Sound.{sound, soundRecords, formClauses}
 use Rattle.program.specs.Program.{badRecord, start, steps, program}
 use Rattle.writer.specs.Writing.{Wrote}
 use Rattle.writer.proofs.Sizes.{bad-short}
 use Rattle.load.specs.Rows.{tablesOf, running, linesFrom, countsOf, Loads}
 use Rattle.load.specs.declared.Loaded.{Loaded}
 use Rattle.session.specs.Output.{Holds}
-
--- "It begins with a fresh state"
-pub zeros-sound : (p : Policy) → T (sound p (replicate 1602 0))
-unfolding sound soundRecords decode formClauses
-zeros-sound p = tt
 
 module _ (text out : List ℕ) (w : ℕ) where
   -- "Longer input writes `bad,0` only."

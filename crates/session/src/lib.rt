@@ -1,5 +1,4 @@
 // The program as one function: the bytes of the input in, the bytes of the output out.
-ghost use mathlib.Core.Path.{_≡_};
 ghost use mathlib.Core.List.{[]};
 ghost use Prim.Native.Nat.{_+_, _*_, _≤_};
 ghost use lib.Dec.{T};
@@ -10,18 +9,15 @@ ghost use Rattle.program.specs.Program.{mostBytes, steps, program};
 ghost use Rattle.inner.specs.Lent.{lent};
 ghost use Rattle.load.specs.Rows.{linesFrom, running};
 ghost use Rattle.session.specs.Output.{Holds};
+use model::KIND_WIDTH;
+use model::RIGHT_WIDTH;
+use model::RULE_WIDTH;
 
 const POLICY_WORDS: u16 = 3;
 
 const WORDS: u16 = 11;
 
 const MOST_BYTES: usize = 65536;
-
-const RULE_WIDTH: usize = 11;
-
-const KIND_WIDTH: usize = 7;
-
-const RIGHT_WIDTH: usize = 2;
 
 // Answers the events from a place on, until the text ends or a record is bad. The policy is complete when the first event comes, so it
 // is judged here, once; and a record of the policy is bad from now on.

@@ -1,17 +1,16 @@
 -- What a sound state keeps of ranges.
 use Prim.Native.Nat.{ℕ, _+_, _/_, _≤_, _<_}
-use mathlib.Core.Path.{_≡_, refl, sym, ap, _∙_, subst, subst⁻¹}
-use mathlib.Core.Bool.{Bool, true, false, true≢false, not, _&&_}
-use mathlib.Core.List.{List, [], _∷_, _++_, List·Memᴰ}
+use mathlib.Core.Path.{_≡_, refl, sym, _∙_}
+use mathlib.Core.Bool.{Bool, true, false, true≢false}
+use mathlib.Core.List.{List, [], _++_}
 use native.Mathlib.Omega.{arith}
-use lib.Dec.{T, ltb, ltb→lt, lt→ltb}
+use lib.Dec.{T, ltb→lt}
 use lib.ListN.{length}
-use Rattle.model.specs.Lists.{all, every, allOverEarlier}
-use Rattle.model.specs.Records.{Tables, Policy, World, worldOf}
+use Rattle.model.specs.Lists.{all, allOverEarlier}
+use Rattle.model.specs.Records.{Policy, World, worldOf}
 use Rattle.model.specs.Layout.{decode, policyOf, kindFrom}
 use Rattle.model.specs.Sound.{rowClauses, rowSound, certificateClauses, certificateSound, wellFormed, soundRecords, sound}
 use Rattle.model.specs.declared.Row.{Row}
-use Rattle.model.specs.declared.Certificate.{Certificate}
 use Rattle.model.proofs.Tests.{is-true, of-true, and-left, and-right, each, of-each, all-of, of-all, earlier-of}
 use Rattle.table.specs.Entries.{Sized}
 use Rattle.table.proofs.Entries.{length-entries}

@@ -3,16 +3,15 @@ use Prim.Native.Nat.{ℕ}
 use mathlib.Core.Path.{_≡_, refl, ap, _∙_}
 use mathlib.Core.Bool.{not, _&&_}
 use mathlib.Core.List.{List, [], _∷_}
-use lib.Dec.{eqb, ltb, leb}
-use lib.ListN.{length, getD, drop}
-use Rattle.model.specs.Lists.{every, any, all, allOverEarlier, isZero}
-use Rattle.model.specs.Limits.{users, roles, mostConditions}
+use lib.Dec.{eqb, ltb}
+use lib.ListN.{length, getD}
+use Rattle.model.specs.Lists.{every, any, allOverEarlier}
+use Rattle.model.specs.Limits.{users, roles}
 use Rattle.model.specs.Records.{Tables, Policy, State, worldOf}
 use Rattle.model.specs.Layout.{policyOf, decode}
-use Rattle.model.specs.Conditions.{Condition, role, kind, fact, malformed, meant, activating, membership, noRule, active, allHold, supported}
-use Rattle.model.specs.Sound.{conditionFits, ruleClauses, ruleFits, sameCertificate, certificateClauses, certificateSound, rowClauses, rowSound, wellFormed, soundRecords, sound}
+use Rattle.model.specs.Conditions.{role, kind, membership, noRule, active, allHold, supported}
+use Rattle.model.specs.Sound.{sameCertificate, certificateClauses, certificateSound, rowClauses, rowSound, wellFormed, soundRecords, sound}
 use Rattle.model.specs.declared.Rule.{Rule}
-use Rattle.model.specs.declared.Kind.{Kind}
 use Rattle.model.specs.declared.Row.{Row}
 use Rattle.model.specs.declared.Certificate.{Certificate}
 use Rattle.table.specs.Entries.{without-rights}

@@ -1,18 +1,16 @@
 -- Traces: a certificate whose trace is not marked is not among those that have marked theirs.
-use Prim.Native.Nat.{ℕ, _+_, _*_, _/_, _%_, _<_}
-use mathlib.Core.Path.{_≡_, refl, sym, ap, _∙_, subst, subst⁻¹}
+use Prim.Native.Nat.{ℕ, _+_, _*_, _%_}
+use mathlib.Core.Path.{_≡_, refl, sym, ap, _∙_, subst⁻¹}
 use mathlib.Core.Bool.{Bool, true, false, true≢false, _||_}
 use mathlib.Core.Logic.{_⊎_, inl, inr}
 use mathlib.Core.List.{List, [], _∷_, _++_, List·Memᴰ, List·Memᴰ·not-nil, List·Memᴰ·cases-cons, List·Memᴰ·head, List·Memᴰ·tail}
-use native.Mathlib.Omega.{arith}
 use lib.Dec.{T, eqb, eqb→eq}
-use lib.ListN.{length, replicate}
 use borrow.Author.Tests.{eq-eqb}
-use Rattle.model.specs.Lists.{any, every}
+use Rattle.model.specs.Lists.{any}
 use Rattle.model.specs.Sound.{sameCertificate}
 use Rattle.model.specs.Layout.{certificateFrom, certificateNumbers}
 use Rattle.model.specs.declared.Certificate.{Certificate}
-use Rattle.model.proofs.Tests.{is-true, of-true, any-of, each}
+use Rattle.model.proofs.Tests.{or-later, of-true, any-of, each}
 use Rattle.table.specs.Entries.{certificateAt, firstCertificates}
 use Rattle.table.proofs.Entries.{entries-more}
 use Rattle.marks.specs.Marks.{marked, Marked}
@@ -61,10 +59,6 @@ traced-on s traces traces′ i at c e a t m =
     subst⁻¹ (λ (l : List Certificate). Traced traces′ l) (entries-more certificateFrom 3 (certificateNumbers s) i ∙ ap (λ (d : Certificate). firstCertificates s i ++ (d ∷ [])) (sym e))
     (record { size = m .size ∙ t .size; left = λ d h. go d (last-member (firstCertificates s i) c d h) })
   where
-    or-true : (b : Bool) → (b || true) ≡ true
-    or-true true = refl
-    or-true false = refl
-
     go : (d : Certificate) → List·Memᴰ d (firstCertificates s i) ⊎ (d ≡ c) → marked traces′ (trace d) ≡ true
-    go d (inl h) = m .marks (trace d) ∙ ap (λ (b : Bool). eqb (trace d) at || b) (t .left d h) ∙ or-true (eqb (trace d) at)
+    go d (inl h) = m .marks (trace d) ∙ or-later (eqb (trace d) at) (marked traces (trace d)) (t .left d h)
     go d (inr q) = m .marks (trace d) ∙ ap (λ (b : Bool). b || marked traces (trace d)) (eq-eqb (trace d) at (ap trace q ∙ sym a))

@@ -13,34 +13,25 @@ ghost use Rattle.index.specs.Indexed.{InRange, Numbered, Indexed};
 ghost use Rattle.policy.specs.Lent.{kindsOnly};
 ghost use Rattle.sound.specs.Traces.{trace, Traced};
 ghost use Rattle.sound.specs.Ranges.{rowInRange, CertificatesInRange};
+use model::CERTIFICATE_COUNT;
+use model::CERTIFICATE_WIDTH;
+use model::CERTIFICATES;
 use model::Certificate;
+use model::KIND_WIDTH;
+use model::ROLES;
+use model::ROW_COUNT;
+use model::ROW_WIDTH;
+use model::ROWS;
+use model::RULE_WIDTH;
 use model::Row;
-
-const USERS: u16 = 4096;
-
-const ROLES: u16 = 256;
-
-const STATE_SIZE: usize = 1602;
+use model::STATE_SIZE;
+use model::USERS;
 
 const FACTS: usize = 64;
 
-const ROW_COUNT: usize = 64;
-
-const ROWS: usize = 65;
-
-const CERTIFICATE_COUNT: usize = 833;
-
-const CERTIFICATES: usize = 834;
-
 const MOST: usize = 256;
 
-const WIDTH: usize = 3;
-
 const TRACES: usize = 16384;
-
-const RULE_WIDTH: usize = 11;
-
-const KIND_WIDTH: usize = 7;
 
 // "64 facts, each 0 or 1"
 fn facts_are_bits(state: &[u16]) -> bool
@@ -75,11 +66,11 @@ fn well_formed(state: &[u16]) -> bool
     if certificates > MOST {
         return false;
     }
-    let used = rows * WIDTH;
+    let used = rows * ROW_WIDTH;
     if !policy::all_zero(state, ROWS + used, 768 - used) {
         return false;
     }
-    let held = certificates * WIDTH;
+    let held = certificates * CERTIFICATE_WIDTH;
     if !policy::all_zero(state, CERTIFICATES + held, 768 - held) {
         return false;
     }

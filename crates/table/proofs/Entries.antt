@@ -1,25 +1,18 @@
 -- The laws by which loops over tables are proved: one entry more, an entry found, an entry missed; and what stands at each place.
 use Prim.Native.Nat.{ℕ, zero, suc, _+_, _*_, _-_, _/_, _≤_, _<_}
-use mathlib.Core.Path.{_≡_, refl, sym, ap, _∙_, subst, subst⁻¹}
-use mathlib.Core.Bool.{Bool, true, false, not, _&&_, _||_}
-use mathlib.Core.List.{List, [], _∷_, _++_, map, map-append, List·Memᴰ, List·Memᴰ·head, List·Memᴰ·tail}
+use mathlib.Core.Path.{_≡_, refl, sym, ap, _∙_, subst}
+use mathlib.Core.Bool.{Bool, true, false, _&&_, _||_}
+use mathlib.Core.List.{List, [], _∷_, _++_, List·Memᴰ}
 use native.Mathlib.Omega.{arith}
-use native.Mathlib.Nat.{suc-mul, zero-mul, add-comm, add-assoc}
+use native.Mathlib.Nat.{suc-mul, zero-mul, add-comm}
 use native.Mathlib.Numerals.{add-one}
 use lib.Dec.{T}
 use lib.ListN.{length, getD, take, drop, length-drop, length-take, List·getD-eq-default}
-use lib.Seq.{getD-take, getD-drop, drop-drop, take-suc, ext-getD, length-take-le, take-add}
+use lib.Seq.{getD-take, getD-drop, drop-drop, take-suc, ext-getD, length-take-le}
 use Rattle.model.specs.Lists.{any, all, rowsOf}
-use Rattle.model.specs.Limits.{rowWidth, certificateWidth}
-use Rattle.model.specs.Layout.{ruleFrom, kindFrom, rightFrom, rowFrom, certificateFrom, rowNumbers, certificateNumbers}
-use Rattle.model.specs.declared.Rule.{Rule}
-use Rattle.model.specs.declared.Kind.{Kind}
-use Rattle.model.specs.declared.Right.{Right}
-use Rattle.model.specs.declared.Row.{Row}
-use Rattle.model.specs.declared.Certificate.{Certificate}
-use Rattle.model.proofs.Tests.{is-true, of-true, and-left, any-append, of-any, all-of, and-both}
+use Rattle.model.proofs.Tests.{all-append, is-true, of-true, any-append, of-any, all-of}
 use Rattle.model.proofs.Numbers.{length-rows, length-map}
-use Rattle.table.specs.Entries.{entry, entries, ruleAt, kindAt, rightAt, rowAt, certificateAt, firstRows, firstCertificates}
+use Rattle.table.specs.Entries.{entry, entries, ruleAt, kindAt, rightAt, rowAt, certificateAt}
 
 -- ── one entry more ──
 
@@ -60,16 +53,8 @@ module _ {A : Type 0} (from : List ℕ → A) (width : ℕ) where
 -- ── a loop that looks for an element that fails, over a list by its places ──
 
 module _ {A : Type 0} (test : A → Bool) where
-  pub all-append : (xs ys : List A) → all test (xs ++ ys) ≡ (all test xs && all test ys)
-  all-append [] ys = refl
-  all-append (x ∷ xs) ys = go (test x) (all-append xs ys)
-    where
-      go : (b : Bool) → all test (xs ++ ys) ≡ (all test xs && all test ys) → (b && all test (xs ++ ys)) ≡ ((b && all test xs) && all test ys)
-      go true e = e
-      go false e = refl
-
   pub all-last : (xs : List A) (x : A) → all test xs ≡ true → test x ≡ true → all test (xs ++ (x ∷ [])) ≡ true
-  all-last xs x a b = all-append xs (x ∷ []) ∙ (λ i. a i && (b i && true))
+  all-last xs x a b = all-append test xs (x ∷ []) ∙ (λ i. a i && (b i && true))
 
   pub all-spoilt : (xs : List A) (x : A) → List·Memᴰ x xs → test x ≡ false → all test xs ≡ false
   all-spoilt xs x m e = go (all test xs) refl

@@ -1,19 +1,18 @@
 -- What a condition does not look at: holding reads the kinds and no other table of the policy.
 use Prim.Native.Nat.{ℕ, min, _≤_, _<_}
 use mathlib.Core.Path.{_≡_, refl, sym, ap, _∙_}
-use mathlib.Core.Bool.{Bool, true, false, _&&_}
+use mathlib.Core.Bool.{_&&_}
 use mathlib.Core.Logic.{_⊎_, inl, inr}
-use mathlib.Core.List.{List, []}
+use mathlib.Core.List.{List}
 use native.Mathlib.Omega.{arith}
 use lib.ListN.{length, getD, take}
 use lib.Dec.{eqb}
 use lib.Seq.{take-all}
 use Rattle.model.specs.Lists.{all}
 use Rattle.model.specs.Records.{Policy, State, worldOf}
-use Rattle.model.specs.Conditions.{Condition, role, kind, fact, malformed, meant, prerequisiteRoles, noKind, kindNumbered, ruleNumbered, noRule, membership, activating, active, supported, satisfied, someStands, holds, allHold}
+use Rattle.model.specs.Conditions.{Condition, role, kind, fact, malformed, meant, prerequisiteRoles, noKind, noRule, membership, activating, active, supported, satisfied, someStands, holds, allHold}
 use Rattle.model.specs.declared.Row.{Row}
 use Rattle.model.specs.declared.Kind.{Kind}
-use Rattle.model.specs.declared.Rule.{Rule}
 use Rattle.model.proofs.Tests.{lt-or-ge}
 
 pub holds-same : (p₁ p₂ : Policy) (t : State) → p₁ .kinds ≡ p₂ .kinds → (rows : List Row) (u : ℕ) (c : Condition) → holds (worldOf p₁ t) rows u c ≡ holds (worldOf p₂ t) rows u c

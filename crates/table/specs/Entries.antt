@@ -1,6 +1,6 @@
 -- The tables by places, as code reads them: entry i of a table, and its first entries. Where the tables of a state stand is said by
 -- the model's layout; here a table is a list of numbers.
-use Prim.Native.Nat.{ℕ, _*_, _/_, _≤_}
+use Prim.Native.Nat.{ℕ, _*_, _≤_}
 use mathlib.Core.Path.{_≡_}
 use mathlib.Core.List.{List, [], map}
 use lib.ListN.{length, take, drop}

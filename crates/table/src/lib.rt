@@ -7,25 +7,18 @@ ghost use Rattle.model.specs.Limits.{stateSize, mostRows, mostCertificates};
 ghost use Rattle.model.specs.Layout.{policyOf};
 ghost use Rattle.model.specs.Conditions.{isRow, active, kindNumbered, ruleNumbered};
 ghost use Rattle.table.specs.Entries.{ruleAt, kindAt, rightAt, rowAt, firstRows, certificateAt, without-rights};
+use model::CERTIFICATE_WIDTH;
+use model::CERTIFICATES;
 use model::Certificate;
+use model::KIND_WIDTH;
 use model::Kind;
+use model::RIGHT_WIDTH;
+use model::ROW_WIDTH;
+use model::ROWS;
+use model::RULE_WIDTH;
 use model::Right;
 use model::Row;
 use model::Rule;
-
-const ROWS: usize = 65;
-
-const ROW_WIDTH: usize = 3;
-
-const CERTIFICATES: usize = 834;
-
-const CERTIFICATE_WIDTH: usize = 3;
-
-const RULE_WIDTH: usize = 11;
-
-const KIND_WIDTH: usize = 7;
-
-const RIGHT_WIDTH: usize = 2;
 
 // A lent number as an index.
 pub fn wide(x: u16) -> usize

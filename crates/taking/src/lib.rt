@@ -16,17 +16,13 @@ ghost use Rattle.index.specs.Indexed.{InRange};
 ghost use Rattle.inner.specs.Lent.{lent, Answers};
 ghost use Rattle.taking.specs.Fallen.{Fallen};
 use model::Answer;
+use model::CERTIFICATE_COUNT;
 use model::Certificate;
-
-const USERS: u16 = 4096;
+use model::KIND_WIDTH;
+use model::ROW_COUNT;
+use model::USERS;
 
 const FACTS: u16 = 64;
-
-const ROW_COUNT: usize = 64;
-
-const CERTIFICATE_COUNT: usize = 833;
-
-const KIND_WIDTH: usize = 7;
 
 // Certificate j goes, and the rows that lose their support fall. Returns how many rows were lost.
 fn take_certificate(rules: &[u16], kinds: &[u16], state: &mut [u16], j: usize) -> u16

@@ -9,6 +9,7 @@ use lib.Dec.{ltb, leb}
 use lib.ListN.{length, drop, set, replicate, length-append}
 use lib.Seq.{set-append-seam}
 use Rattle.model.specs.Lists.{every, all, filledTo}
+use Rattle.model.proofs.Tests.{all-append}
 use Rattle.model.proofs.Numbers.{length-map}
 use Rattle.program.specs.Text.{unquoted, isNumber, valueOf}
 use Rattle.program.specs.Vocabulary.{words, wordOf, numbered}
@@ -47,14 +48,6 @@ is-not f e = go (isNumber f) refl e
     go true p q = absurd (let z : _≡_ {A = ℕ} 0 1 = cc in omega arith)
     go false p q = p
 
-all-append : (xs ys : List (List ℕ)) → all isNumber (xs ++ ys) ≡ (all isNumber xs && all isNumber ys)
-all-append [] ys = refl
-all-append (x ∷ xs) ys = go (isNumber x) (all-append xs ys)
-  where
-    go : (b : Bool) → all isNumber (xs ++ ys) ≡ (all isNumber xs && all isNumber ys) → (b && all isNumber (xs ++ ys)) ≡ ((b && all isNumber xs) && all isNumber ys)
-    go true e = e
-    go false e = refl
-
 -- one number more at the place behind those that stand
 filled-more : (xs : List ℕ) (v : ℕ) → length xs < mostNumbers → set (filledTo mostNumbers xs) (length xs) v ≡ filledTo mostNumbers (xs ++ (v ∷ []))
 filled-more xs v h =
@@ -76,7 +69,7 @@ module _ (fields : List (List ℕ)) (f : List ℕ) (later : List (List ℕ)) (co
       record {
         read = done ++ (f ∷ []);
         whole = append-assoc done (f ∷ []) later ∙ t .whole;
-        good = all-append done (f ∷ []) ∙ (λ i. t .good i && (is-number f v e .0 i && true));
+        good = all-append isNumber done (f ∷ []) ∙ (λ i. t .good i && (is-number f v e .0 i && true));
         counted = length-append done (f ∷ []) ∙ ap (λ (k : ℕ). k + 1) (t .counted);
         kept =
             ap (λ (l : List ℕ). set l count v) (t .kept)
@@ -86,7 +79,7 @@ module _ (fields : List (List ℕ)) (f : List ℕ) (later : List (List ℕ)) (co
       }
 
   not-all : isNumber f ≡ false → all isNumber fields ≡ false
-  not-all e = ap (all isNumber) (sym (t .whole)) ∙ all-append (t .read) (f ∷ later) ∙ (λ i. t .good i && (e i && all isNumber later))
+  not-all e = ap (all isNumber) (sym (t .whole)) ∙ all-append isNumber (t .read) (f ∷ later) ∙ (λ i. t .good i && (e i && all isNumber later))
 
   longer : count < length fields
   longer = omega (arith, ap length (t .whole), length-append (t .read) (f ∷ later), t .counted)

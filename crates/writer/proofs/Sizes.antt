@@ -14,13 +14,6 @@ use Rattle.writer.proofs.Decimals.{decimal-digit, decimal-digits}
 pub decimal-longer : (n : ℕ) → 10 ≤ n → length (decimal n) ≡ length (decimal (n / 10)) + 1
 decimal-longer n h = ap length (decimal-digits n h) ∙ length-append (decimal (n / 10)) ((48 + n % 10) ∷ [])
 
-pub decimal-some : (n : ℕ) → 1 ≤ length (decimal n)
-decimal-some n = go (lt-or-ge n 10)
-  where
-    go : (n < 10) ⊎ (10 ≤ n) → 1 ≤ length (decimal n)
-    go (inl h) = omega (arith, ap length (decimal-digit n h))
-    go (inr h) = omega (arith, decimal-longer n h)
-
 one-more : (most n : ℕ) → length (decimal (n / 10)) ≤ most → length (decimal n) ≤ suc most
 one-more most n l = go (lt-or-ge n 10)
   where

@@ -1,5 +1,3 @@
-use Prim.Native.Nat.{ℕ}
-use mathlib.Core.Path.{_≡_, refl, sym, ap, _∙_}
 use native.Mathlib.Omega.{arith}
 use Rattle.fall.proofs.Swept.{closed}
 use borrow.Author.Needs.{needs}

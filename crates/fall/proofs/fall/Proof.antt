@@ -1,10 +1,6 @@
 use Prim.Native.Nat.{ℕ}
-use mathlib.Core.Path.{_≡_, subst}
-use mathlib.Core.List.{List}
-use mathlib.Core.Bool.{Bool}
-use native.Mathlib.Omega.{arith}
+use mathlib.Core.Path.{subst}
 use Rattle.model.specs.Conditions.{supported}
-use Rattle.model.specs.declared.Row.{Row}
 use Rattle.table.specs.Entries.{worldAt}
 use Rattle.index.proofs.Indexing.{indexed-state}
 use Rattle.fall.specs.Changes.{Closed}

@@ -1,7 +1,6 @@
-use mathlib.Core.Path.{_≡_, sym, ap, _∙_}
+use mathlib.Core.Path.{sym, ap, _∙_}
 use mathlib.Core.List.{[]}
 use Rattle.model.specs.Layout.{decode}
-use Rattle.model.specs.Conditions.{meant}
 use Rattle.table.specs.Entries.{worldAt}
 use Rattle.index.specs.Marked.{block, holdsBy}
 use Rattle.index.proofs.Holding.{meant-role, meant-kind, meant-fact, meant-nothing}

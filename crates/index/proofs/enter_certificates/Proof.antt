@@ -1,12 +1,12 @@
 -- The invariant: the certificates passed are entered.
-use Prim.Native.Nat.{ℕ, _≤_, _-_, _+_, _*_}
-use mathlib.Core.Path.{_≡_, refl, sym, ap, _∙_, subst}
-use mathlib.Core.List.{List, []}
+use Prim.Native.Nat.{ℕ, _≤_, _-_}
+use mathlib.Core.Path.{_≡_, refl, ap, _∙_, subst}
+use mathlib.Core.List.{[]}
 use native.Mathlib.Omega.{arith}
 use lib.ListN.{length}
 use Rattle.model.specs.Layout.{decode, certificateCount}
 use Rattle.model.specs.declared.Certificate.{Certificate}
-use Rattle.table.specs.Entries.{certificateAt, firstCertificates}
+use Rattle.table.specs.Entries.{firstCertificates}
 use Rattle.index.specs.Indexed.{Indexed}
 use Rattle.index.proofs.Indexing.{certificate-in-range, certificates-on}
 use borrow.Author.Needs.{needs}

@@ -1,12 +1,11 @@
 -- The invariant: the rows passed are entered.
-use Prim.Native.Nat.{ℕ, _≤_, _-_, _+_, _*_}
-use mathlib.Core.Path.{_≡_, refl, sym, ap, _∙_, subst}
-use mathlib.Core.List.{List, []}
+use Prim.Native.Nat.{ℕ, _≤_, _-_}
+use mathlib.Core.Path.{_≡_, refl, ap, _∙_, subst}
 use native.Mathlib.Omega.{arith}
 use lib.ListN.{length}
 use Rattle.model.specs.Layout.{decode, rowCount}
 use Rattle.model.specs.declared.Row.{Row}
-use Rattle.table.specs.Entries.{rowAt, firstRows}
+use Rattle.table.specs.Entries.{firstRows}
 use Rattle.index.specs.Indexed.{Indexed}
 use Rattle.index.proofs.Indexing.{row-in-range, rows-on}
 use borrow.Author.Needs.{needs}

@@ -1,5 +1,5 @@
-use Prim.Native.Nat.{ℕ, _<_}
-use mathlib.Core.Path.{_≡_, ap, subst, subst⁻¹, _∙_, sym}
+use Prim.Native.Nat.{ℕ}
+use mathlib.Core.Path.{ap, subst⁻¹}
 use mathlib.Core.List.{List}
 use native.Mathlib.Omega.{arith}
 use lib.ListN.{length, set, length-set}

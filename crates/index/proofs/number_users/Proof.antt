@@ -1,12 +1,11 @@
 -- The invariant: the rows passed have given their users numbers.
 use Prim.Native.Nat.{ℕ, _≤_, _-_, _+_}
-use mathlib.Core.Path.{_≡_, refl, sym, ap, _∙_, subst, subst⁻¹}
+use mathlib.Core.Path.{_≡_, refl, ap, _∙_, subst, subst⁻¹}
 use mathlib.Core.List.{List}
 use native.Mathlib.Omega.{arith}
-use lib.ListN.{length, set, length-set}
+use lib.ListN.{length, length-set}
 use Rattle.model.specs.Layout.{rowCount}
 use Rattle.model.specs.declared.Row.{Row}
-use Rattle.table.specs.Entries.{rowAt}
 use Rattle.index.proofs.Indexing.{Numbering, numbering-start, numbering-on, numbering-end, row-in-range}
 use borrow.Author.Needs.{needs}
 use Rattle.index.proofs.number_users.Statement.{statement}

@@ -1,4 +1,4 @@
-use mathlib.Core.Path.{_≡_, ap, _∙_}
+use mathlib.Core.Path.{ap, _∙_}
 use Prim.Native.Nat.{ℕ, min}
 use borrow.Author.Tests.{eq-eqb, ne-eqb}
 use Rattle.table.specs.Entries.{ruleAt}

@@ -1,5 +1,4 @@
 use Rattle.load.proofs.Appending.{room-rule, room-kind, room-right, room-none}
-use borrow.Author.Needs.{needs}
 use Rattle.load.proofs.has_room.Statement.{statement}
 use Rattle.load.proofs.has_room.Tie as tie
 

@@ -1,8 +1,8 @@
 use Prim.Native.Nat.{ℕ, _*_}
-use mathlib.Core.Path.{_≡_, refl, ap, _∙_}
+use mathlib.Core.Path.{refl, ap, _∙_}
 use mathlib.Core.List.{List, _++_}
 use native.Mathlib.Omega.{arith}
-use lib.ListN.{length, take}
+use lib.ListN.{take}
 use Rattle.load.proofs.Appending.{rule-row, kind-row, right-row, with-rule, with-kind, with-right, is-right, rules-below, kinds-below, rights-below}
 use borrow.Author.Needs.{needs}
 use Rattle.load.proofs.take_row.Statement.{statement}

@@ -1,6 +1,5 @@
 use Prim.Native.Nat.{ℕ, _/_, _%_, _<_}
-use mathlib.Core.Path.{_≡_, sym, ap, subst⁻¹, subst}
-use mathlib.Core.List.{List}
+use mathlib.Core.Path.{subst⁻¹}
 use native.Mathlib.Omega.{arith}
 use lib.Bits.{bitOr}
 use lib.ListN.{getD, set}

@@ -1,9 +1,9 @@
-use Prim.Native.Nat.{ℕ, _*_}
-use mathlib.Core.Path.{_≡_, refl, sym, ap, _∙_}
+use Rattle.model.proofs.Accepted.{zeros-sound}
+use Prim.Native.Nat.{_*_}
+use mathlib.Core.Path.{sym}
 use native.Mathlib.Omega.{arith}
-use lib.ListN.{length}
 use lib.Seq.{length-take-le}
-use Rattle.session.proofs.Whole.{zeros-sound, too-long, loaded-and-run}
+use Rattle.session.proofs.Whole.{too-long, loaded-and-run}
 use borrow.Author.Needs.{needs}
 use Rattle.session.proofs.session.Statement.{statement}
 use Rattle.session.proofs.session.Tie as tie

@@ -1,5 +1,5 @@
-use Prim.Native.Nat.{ℕ, _/_, _+_, _<_}
-use mathlib.Core.Path.{_≡_, refl, sym, ap, _∙_, subst⁻¹}
+use Prim.Native.Nat.{ℕ, _/_, _<_}
+use mathlib.Core.Path.{refl, sym, ap, _∙_, subst⁻¹}
 use mathlib.Core.Bool.{not, false≢true}
 use mathlib.Core.List.{[]}
 use native.Mathlib.Omega.{arith}

@@ -1,4 +1,4 @@
-use mathlib.Core.Path.{_≡_, sym, ap, _∙_}
+use mathlib.Core.Path.{sym, ap, _∙_}
 use Rattle.table.specs.Entries.{firstCertificates}
 use Rattle.marks.specs.Marks.{marked}
 use native.Mathlib.Omega.{arith}

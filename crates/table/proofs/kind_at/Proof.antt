@@ -1,5 +1,4 @@
 use mathlib.Core.Path.{sym}
-use native.Mathlib.Omega.{arith}
 use Rattle.table.proofs.Entries.{kind-places}
 use borrow.Author.Needs.{needs}
 use Rattle.table.proofs.kind_at.Statement.{statement}

@@ -1,5 +1,4 @@
 use mathlib.Core.Path.{sym}
-use native.Mathlib.Omega.{arith}
 use Rattle.table.proofs.Entries.{rule-places}
 use borrow.Author.Needs.{needs}
 use Rattle.table.proofs.rule_at.Statement.{statement}
