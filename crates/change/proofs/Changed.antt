@@ -14,7 +14,7 @@ use Rattle.model.proofs.Tests.{lt-or-ge}
 use Rattle.table.specs.Entries.{rowAt, firstRows, certificateAt, firstCertificates}
 use Rattle.table.proofs.Entries.{entries-more, row-places, certificate-places, entry-in, length-entries}
 use Rattle.fall.specs.Writes.{Moved, Zeroed}
-use Rattle.fall.proofs.Form.{Formed, as-encoded, facts-same, certificates-same, rows-all-same, rows-same, certificate-same, certificates-first-same}
+use Rattle.fall.proofs.Form.{threeAt, makeRow, makeCertificate, Formed, as-encoded, facts-same, certificates-same, rows-all-same, rows-same, certificate-same, certificates-first-same}
 use Rattle.fall.proofs.Swept.{rows-more}
 use Rattle.change.specs.Appended.{Appended}
 
@@ -59,22 +59,19 @@ pub appended : (s : List ℕ) (at n x y z : ℕ) → n ≡ getD s at 0 → getD 
 unfolding b three
 appended s at n x y z e room fits = subst⁻¹ (λ (m : ℕ). Appended s (set (set (set (set s (m * 3 + at + 1) x) (m * 3 + at + 2) y) (m * 3 + at + 3) z) at (m + 1)) at x y z) e (appended-at s at x y z room fits)
 
-pub row-appended : (s s′ : List ℕ) (r : Row) → Formed s → rowCount s < 256 → Appended s s′ 64 (r .user) (r .role) (r .rule) → s′ ≡ encode (withRows (decode s) (decode s .rows ++ (r ∷ [])))
-unfolding decode firstRows
-row-appended s s′ r f room a = as-encoded s′ (withRows (decode s) (decode s .rows ++ (r ∷ []))) form (λ j. record { facts = facts-same s s′ (a .size) (λ k h. a .below k h) j; rows = rows j; certificates = certificates-same s s′ (a .size) (λ k h. a .above k (omega arith)) j })
+-- the three numbers behind the last entry, as what they make
+new-three : {A : Type 0} (make : ℕ → ℕ → ℕ → A) (s s′ : List ℕ) (at x y z : ℕ) → Appended s s′ at x y z → threeAt make (at + 1) s′ (getD s at 0) ≡ make x y z
+new-three make s s′ at x y z a = λ j. make ((place (getD s at 0 * 3 + (at + 1)) (getD s at 0 * 3 + at + 1) (omega arith) ∙ a .first) j) ((place (getD s at 0 * 3 + (at + 1) + 1) (getD s at 0 * 3 + at + 2) (omega arith) ∙ a .second) j) ((place (getD s at 0 * 3 + (at + 1) + 2) (getD s at 0 * 3 + at + 3) (omega arith) ∙ a .third) j)
   where
     place : (k m : ℕ) → k ≡ m → getD s′ k 0 ≡ getD s′ m 0
     place k m e = ap (λ (n : ℕ). getD s′ n 0) e
 
+pub row-appended : (s s′ : List ℕ) (r : Row) → Formed s → rowCount s < 256 → Appended s s′ 64 (r .user) (r .role) (r .rule) → s′ ≡ encode (withRows (decode s) (decode s .rows ++ (r ∷ [])))
+unfolding decode firstRows
+row-appended s s′ r f room a = as-encoded s′ (withRows (decode s) (decode s .rows ++ (r ∷ []))) form (λ j. record { facts = facts-same s s′ (a .size) (λ k h. a .below k h) j; rows = rows j; certificates = certificates-same s s′ (a .size) (λ k h. a .above k (omega arith)) j })
+  where
     new : rowAt s′ (rowCount s) ≡ r
-    new =
-        row-places s′ (rowCount s) room
-        ∙ (λ j.
-        record {
-          user = (place (rowCount s * 3 + 65) (rowCount s * 3 + 64 + 1) (omega arith) ∙ a .first) j;
-          role = (place (rowCount s * 3 + 65 + 1) (rowCount s * 3 + 64 + 2) (omega arith) ∙ a .second) j;
-          rule = (place (rowCount s * 3 + 65 + 2) (rowCount s * 3 + 64 + 3) (omega arith) ∙ a .third) j;
-        })
+    new = row-places s′ (rowCount s) room ∙ new-three makeRow s s′ 64 (r .user) (r .role) (r .rule) a
 
     rows : firstRows s′ (rowCount s′) ≡ firstRows s (rowCount s) ++ (r ∷ [])
     rows = ap (firstRows s′) (a .count) ∙ rows-more s′ (rowCount s) ∙ (λ j. rows-same s s′ (rowCount s) (f .rows) (λ k h l. a .kept k (omega arith) (omega arith)) j ++ (new j ∷ []))
@@ -98,18 +95,8 @@ pub certificate-appended : (s s′ : List ℕ) (c : Certificate) → Formed s �
 unfolding decode firstCertificates
 certificate-appended s s′ c f room a = as-encoded s′ (withCertificates (decode s) (decode s .certificates ++ (c ∷ []))) form (λ j. record { facts = facts-same s s′ (a .size) (λ k h. a .below k (omega arith)) j; rows = rows-all-same s s′ (a .size) (λ k h l. a .below k l) j; certificates = certificates j })
   where
-    place : (k m : ℕ) → k ≡ m → getD s′ k 0 ≡ getD s′ m 0
-    place k m e = ap (λ (n : ℕ). getD s′ n 0) e
-
     new : certificateAt s′ (certificateCount s) ≡ c
-    new =
-        certificate-places s′ (certificateCount s) room
-        ∙ (λ j.
-        record {
-          appointee = (place (certificateCount s * 3 + 834) (certificateCount s * 3 + 833 + 1) (omega arith) ∙ a .first) j;
-          kind = (place (certificateCount s * 3 + 834 + 1) (certificateCount s * 3 + 833 + 2) (omega arith) ∙ a .second) j;
-          appointer = (place (certificateCount s * 3 + 834 + 2) (certificateCount s * 3 + 833 + 3) (omega arith) ∙ a .third) j;
-        })
+    new = certificate-places s′ (certificateCount s) room ∙ new-three makeCertificate s s′ 833 (c .appointee) (c .kind) (c .appointer) a
 
     certificates : firstCertificates s′ (certificateCount s′) ≡ firstCertificates s (certificateCount s) ++ (c ∷ [])
     certificates = ap (firstCertificates s′) (a .count) ∙ certificates-more s′ (certificateCount s) ∙ (λ j. certificates-first-same s s′ (certificateCount s) (f .certificates) (λ k h l. a .kept k (omega arith) (omega arith)) j ++ (new j ∷ []))

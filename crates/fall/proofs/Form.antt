@@ -14,6 +14,8 @@ use Rattle.model.specs.Limits.{mostRows, mostCertificates, stateSize}
 use Rattle.model.specs.Records.{State}
 use Rattle.model.specs.Layout.{decode, encode, rowCount, certificateCount, factNumbers, rowNumbers, certificateNumbers, rowFrom, certificateFrom}
 use Rattle.model.specs.Sound.{formClauses, wellFormed}
+use Rattle.model.specs.declared.Row.{Row}
+use Rattle.model.specs.declared.Certificate.{Certificate}
 use Rattle.model.proofs.Tests.{lt-or-ge, of-true, and-left, and-right, and-both, each, of-each}
 use Rattle.model.proofs.Numbers.{encode-decode}
 use Rattle.table.specs.Entries.{entry, entries, rowAt, firstRows, certificateAt, firstCertificates, Sized}
@@ -133,29 +135,31 @@ pub rows-all-same : (s s′ : List ℕ) → length s′ ≡ length s → ((k : �
 unfolding decode
 rows-all-same s s′ e h = λ i. entries rowFrom 3 (part-same s s′ 65 768 e (λ k l. h (65 + k) (omega arith) (omega arith)) i) (h 64 (omega arith) (omega arith) i)
 
+-- three numbers at entry i of a table, as what they make
+module _ {A : Type 0} (make : ℕ → ℕ → ℕ → A) (place : ℕ) where
+  abbrev pub threeAt : List ℕ → ℕ → A
+  threeAt s i = make (getD s (i * 3 + place) 0) (getD s (i * 3 + place + 1) 0) (getD s (i * 3 + place + 2) 0)
+
+  three-same : (s s′ : List ℕ) (i j : ℕ) → ((k : ℕ) → k < 3 → getD s′ (j * 3 + place + k) 0 ≡ getD s (i * 3 + place + k) 0) → threeAt s′ j ≡ threeAt s i
+  three-same s s′ i j h = λ t. make (first t) (h 1 (omega arith) t) (h 2 (omega arith) t)
+    where
+      first : getD s′ (j * 3 + place) 0 ≡ getD s (i * 3 + place) 0
+      first =
+          let p : j * 3 + place ≡ j * 3 + place + 0 = omega arith in
+          let q : i * 3 + place + 0 ≡ i * 3 + place = omega arith in
+          ap (λ (n : ℕ). getD s′ n 0) p ∙ h 0 (omega arith) ∙ ap (λ (n : ℕ). getD s n 0) q
+
+abbrev pub makeRow : ℕ → ℕ → ℕ → Row
+makeRow u q i = record { user = u; role = q; rule = i }
+
+abbrev pub makeCertificate : ℕ → ℕ → ℕ → Certificate
+makeCertificate u k a = record { appointee = u; kind = k; appointer = a }
+
 pub row-same : (s s′ : List ℕ) (i j : ℕ) → i < 256 → j < 256 → ((k : ℕ) → k < 3 → getD s′ (j * 3 + 65 + k) 0 ≡ getD s (i * 3 + 65 + k) 0) → rowAt s′ j ≡ rowAt s i
-row-same s s′ i j a b h =
-    row-places s′ j b
-    ∙ (λ t. record { user = first t; role = h 1 (omega arith) t; rule = h 2 (omega arith) t })
-    ∙ sym (row-places s i a)
-  where
-    first : getD s′ (j * 3 + 65) 0 ≡ getD s (i * 3 + 65) 0
-    first =
-        let p : j * 3 + 65 ≡ j * 3 + 65 + 0 = omega arith in
-        let q : i * 3 + 65 + 0 ≡ i * 3 + 65 = omega arith in
-        ap (λ (n : ℕ). getD s′ n 0) p ∙ h 0 (omega arith) ∙ ap (λ (n : ℕ). getD s n 0) q
+row-same s s′ i j a b h = row-places s′ j b ∙ three-same makeRow 65 s s′ i j h ∙ sym (row-places s i a)
 
 pub certificate-same : (s s′ : List ℕ) (i j : ℕ) → i < 256 → j < 256 → ((k : ℕ) → k < 3 → getD s′ (j * 3 + 834 + k) 0 ≡ getD s (i * 3 + 834 + k) 0) → certificateAt s′ j ≡ certificateAt s i
-certificate-same s s′ i j a b h =
-    certificate-places s′ j b
-    ∙ (λ t. record { appointee = first t; kind = h 1 (omega arith) t; appointer = h 2 (omega arith) t })
-    ∙ sym (certificate-places s i a)
-  where
-    first : getD s′ (j * 3 + 834) 0 ≡ getD s (i * 3 + 834) 0
-    first =
-        let p : j * 3 + 834 ≡ j * 3 + 834 + 0 = omega arith in
-        let q : i * 3 + 834 + 0 ≡ i * 3 + 834 = omega arith in
-        ap (λ (n : ℕ). getD s′ n 0) p ∙ h 0 (omega arith) ∙ ap (λ (n : ℕ). getD s n 0) q
+certificate-same s s′ i j a b h = certificate-places s′ j b ∙ three-same makeCertificate 834 s s′ i j h ∙ sym (certificate-places s i a)
 
 -- tables that agree in their first entries
 pub entries-same : {A : Type 0} (from : List ℕ → A) (width : ℕ) (t t′ : List ℕ) (k : ℕ) → ((i : ℕ) → i < k → entry from width t′ i ≡ entry from width t i) → entries from width t′ k ≡ entries from width t k
