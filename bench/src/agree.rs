@@ -1,6 +1,6 @@
 //! The baselines and the border agree on many calls, on sound tables and on spoilt ones.
 
-use crate::call::{indexed, ours, plain, Call};
+use crate::call::{indexed, ours, plain, unjudged, Call, Side};
 use crate::scene::{Scene, CERTIFICATES, FULL, MIDDLE, ROWS};
 use adobethrum::LIST;
 
@@ -100,11 +100,13 @@ impl Numbers {
     }
 }
 
-/// Gives all sides the call, which must do the same.
+/// Gives all sides the call, which must do the same; so must the unjudged call, where policy and state are found sound.
 fn all(call: Call, scene: &Scene, state: &mut [u16], list: &mut [u16]) -> u16 {
     let (before, list_before) = (state.to_vec(), list.to_vec());
     let answer = ours(call, scene.policy(), state, list);
-    for baseline in [plain, indexed] {
+    let unsound = [1, 2].contains(&answer.code);
+    let baselines: &[Side] = if unsound { &[plain, indexed] } else { &[plain, indexed, unjudged] };
+    for baseline in baselines {
         let (mut other, mut other_list) = (before.clone(), list_before.clone());
         assert_eq!(answer, baseline(call, scene.policy(), &mut other, &mut other_list), "{call:?}");
         assert_eq!((&*state, &*list), (&other[..], &other_list[..]), "{call:?}");

@@ -1,5 +1,6 @@
 //! A call as data, so that all sides, and both programs, are given the very same ones.
 
+use crate::plain::unjudged;
 use crate::{indexed, plain};
 use adobethrum::{Answer, Policy};
 
@@ -77,11 +78,15 @@ baseline! {
     plain
 }
 baseline! {
+    /// The call of the baseline that scans, on tables that are known to be sound.
+    unjudged
+}
+baseline! {
     /// The call of the baseline with an index.
     indexed
 }
 
-/// All sides, in the order of the table.
+/// All sides that judge, in the order of the table.
 pub const SIDES: [Side; 3] = [ours, plain, indexed];
 
 impl Call {

@@ -1,6 +1,6 @@
 //! Cases: calls on a state, what they must answer, and what they cost on each side.
 
-use crate::call::{Call, Side, SIDES};
+use crate::call::{unjudged, Call, Side, SIDES};
 use crate::scene::Scene;
 use crate::table::Line;
 use adobethrum::{Answer, LIST, STATE};
@@ -31,12 +31,12 @@ pub struct Case {
 
 impl Case {
     /// Each side must give the wanted answers, and the same state and list as the first.
-    fn agree(&self) -> Result<(), String> {
+    fn agree(&self, sides: &[Side]) -> Result<(), String> {
         let wrong = |what: String| Err(format!("{}, {}: {what}", self.name, self.tables));
-        let mut states = SIDES.map(|_| self.scene.state.clone());
-        let mut lists = SIDES.map(|_| [9; LIST]);
+        let mut states = vec![self.scene.state.clone(); sides.len()];
+        let mut lists = vec![[9; LIST]; sides.len()];
         for &(call, code, second) in &self.calls {
-            for ((side, state), list) in SIDES.iter().zip(&mut states).zip(&mut lists) {
+            for ((side, state), list) in sides.iter().zip(&mut states).zip(&mut lists) {
                 let answer = side(call, self.scene.policy(), state, list);
                 if answer != (Answer { code, second }) {
                     return wrong(format!("{call:?} answers {answer:?}, which is not what the case is about"));
@@ -83,29 +83,51 @@ impl Case {
 }
 
 /// A case that the sides agree on, and of each side the rounds of a batch and the best batch so far.
-pub struct Measured {
+pub struct Measured<const N: usize> {
     case: Case,
-    rounds: [usize; 3],
-    best: [Duration; 3],
+    sides: [Side; N],
+    rounds: [usize; N],
+    best: [Duration; N],
 }
 
-impl Measured {
-    pub fn new(case: Case) -> Result<Measured, String> {
-        case.agree()?;
-        Ok(Measured { rounds: SIDES.map(|side| case.rounds(side)), case, best: [Duration::MAX; 3] })
+impl Measured<3> {
+    /// The calls of the sides that judge.
+    pub fn judged(case: Case) -> Result<Measured<3>, String> {
+        case.agree(&SIDES)?;
+        Ok(Measured::new(case, SIDES))
+    }
+
+    pub fn line(&self) -> Line {
+        let [ours, plain, indexed] = self.times();
+        let others = vec![Some(plain), Some(indexed)];
+        Line { what: self.case.name.clone(), tables: self.case.tables.clone(), ours, others }
+    }
+}
+
+impl Measured<1> {
+    /// The calls without judging, which must do what all sides do that judge.
+    pub fn unjudged(case: Case) -> Result<Measured<1>, String> {
+        case.agree(&[&SIDES[..], &[unjudged]].concat())?;
+        Ok(Measured::new(case, [unjudged]))
+    }
+}
+
+impl<const N: usize> Measured<N> {
+    fn new(case: Case, sides: [Side; N]) -> Measured<N> {
+        Measured { rounds: sides.map(|side| case.rounds(side)), case, sides, best: [Duration::MAX; N] }
     }
 
     /// Batches of the sides take turns.
     pub fn pass(&mut self) {
         let mut states = Vec::new();
-        for turn in 0..BATCHES * SIDES.len() {
-            let at = turn % SIDES.len();
-            self.best[at] = self.case.batch(SIDES[at], self.rounds[at], &mut states).min(self.best[at]);
+        for turn in 0..BATCHES * N {
+            let at = turn % N;
+            self.best[at] = self.case.batch(self.sides[at], self.rounds[at], &mut states).min(self.best[at]);
         }
     }
 
-    pub fn line(&self) -> Line {
-        let [ours, plain, indexed] = [0, 1, 2].map(|at| self.best[at].as_secs_f64() * 1e6 / self.rounds[at] as f64);
-        Line { what: self.case.name.clone(), tables: self.case.tables.clone(), ours, others: vec![plain, indexed] }
+    /// What a round costs each side, in microseconds.
+    pub fn times(&self) -> [f64; N] {
+        std::array::from_fn(|at| self.best[at].as_secs_f64() * 1e6 / self.rounds[at] as f64)
     }
 }

@@ -18,9 +18,15 @@ use table::{Head, Line};
 /// The machine is not always equally quick, so every case is measured in several passes over all of them.
 const PASSES: usize = 8;
 
-const CALLS: Head = Head { title: "Public calls", unit: "µs", others: &["plain", "indexed"] };
-const EVENTS: Head = Head { title: "The program's events", unit: "µs", others: &["second"] };
-const TEXTS: Head = Head { title: "Whole texts through the program", unit: "ms", others: &["second"] };
+const CALLS: Head = Head { title: "Public calls", note: "", unit: "µs", others: &["plain", "indexed"] };
+const EVENTS: Head = Head {
+    title: "The program's events",
+    note: "An event includes reading its record and writing its answer, which plain unjudged does not: so the first ratio is an upper \
+           bound of what the inner call costs beside it.",
+    unit: "µs",
+    others: &["plain unjudged", "second"],
+};
+const TEXTS: Head = Head { title: "Whole texts through the program", note: "", unit: "ms", others: &["second"] };
 
 type Tables = Vec<(Head, Vec<Line>)>;
 
@@ -30,7 +36,7 @@ fn measured(programs: &[String]) -> Result<Tables, String> {
         [terminal, second] => Some([terminal.as_str(), second]),
         _ => return Err("usage: bench [--page] [TERMINAL SECOND]".to_string()),
     };
-    let mut cases = cases::all()?.into_iter().map(case::Measured::new).collect::<Result<Vec<_>, _>>()?;
+    let mut cases = cases::all()?.into_iter().map(case::Measured::judged).collect::<Result<Vec<_>, _>>()?;
     let mut sessions = if programs.is_some() { programs::all()? } else { Vec::new() };
     if let Some(programs) = programs {
         sessions.iter().try_for_each(|session| session.agree(programs))?;

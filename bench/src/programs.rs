@@ -1,6 +1,7 @@
 //! The program and the second implementation, on sessions: what the calls cost where tables are known to be sound.
 
 use crate::call::Call::{self, *};
+use crate::case::{Again, Case, Measured};
 use crate::scene::{Scene, FULL, LATE_USER, NO_PRIVILEGE};
 use crate::table::Line;
 use std::io::Write;
@@ -30,17 +31,22 @@ pub struct Session {
     times: usize,
     /// Of each program, on each input.
     best: [[Duration; 2]; 2],
+    /// The same calls of the plain baseline, without judging.
+    unjudged: Option<Measured<1>>,
 }
 
 impl Session {
     fn new(what: String, tables: &'static str, inputs: [String; 2], times: usize) -> Session {
-        Session { what, tables, inputs, times, best: [[Duration::MAX; 2]; 2] }
+        Session { what, tables, inputs, times, best: [[Duration::MAX; 2]; 2], unjudged: None }
     }
 
-    /// The cost of calls as events: a session with many of them against the same session without.
-    fn of_events(scene: &Scene, tables: &'static str, name: &str, calls: &[Call]) -> Session {
-        let (text, times) = with_events(scene, calls);
-        Session::new(format!("event: {name}"), tables, [text, scene.records()], times)
+    /// The cost of calls as events: a session with many of them against the same session without. Each call has its answer.
+    fn of_events(scene: &Scene, tables: &'static str, name: &str, calls: &[(Call, u16, u16)]) -> Result<Session, String> {
+        let what = format!("event: {name}");
+        let (text, times) = with_events(scene, &asked(calls));
+        let (scene, inputs) = (scene.clone(), [text, scene.records()]);
+        let case = Case { name: what.clone(), tables: tables.into(), scene, calls: calls.to_vec(), again: Again::AsItWas };
+        Ok(Session { unjudged: Some(Measured::unjudged(case)?), ..Session::new(what, tables, inputs, times) })
     }
 
     /// The programs must write the same.
@@ -54,7 +60,7 @@ impl Session {
         Ok(())
     }
 
-    /// The runs of both programs take turns.
+    /// The runs of both programs take turns; the calls without judging follow.
     pub fn pass(&mut self, programs: [&str; 2]) -> Result<(), String> {
         for _ in 0..RUNS {
             for (best, program) in self.best.iter_mut().zip(programs) {
@@ -63,14 +69,21 @@ impl Session {
                 }
             }
         }
+        self.unjudged.iter_mut().for_each(Measured::pass);
         Ok(())
     }
 
     pub fn line(&self) -> Line {
         let each = |[with, without]: [Duration; 2]| (with.as_secs_f64() - without.as_secs_f64()) * 1e6 / self.times as f64;
-        let [ours, theirs] = self.best.map(each);
-        Line { what: self.what.clone(), tables: self.tables.into(), ours, others: vec![theirs] }
+        let [ours, second] = self.best.map(each);
+        let unjudged = self.unjudged.as_ref().map(|measured| measured.times()[0]);
+        Line { what: self.what.clone(), tables: self.tables.into(), ours, others: vec![unjudged, Some(second)] }
     }
+}
+
+/// The calls without their answers.
+fn asked(calls: &[(Call, u16, u16)]) -> Vec<Call> {
+    calls.iter().map(|&(call, ..)| call).collect()
 }
 
 /// The scene's session, and the calls again and again, as often as there is room; returns how often.
@@ -86,22 +99,23 @@ pub fn all() -> Result<Vec<Session>, String> {
     let full = Scene::workshop(&FULL)?;
     let (user, role) = FULL.deep_user();
     let (manager, kind) = (FULL.manager(), FULL.kinds - 1);
-    let moves = [Logout(LATE_USER), Activate(LATE_USER, manager)];
-    let papers = [Withdraw(LATE_USER, kind, LATE_USER), Appoint(LATE_USER, LATE_USER, kind)];
-    let invoke = Invoke(user, NO_PRIVILEGE);
-    let effective = Effective(user, role, NO_PRIVILEGE);
-    let mixed = [&moves[..], &papers, &[Environment(40, 0), invoke, effective]].concat();
-    let (whole, _) = with_events(&full, &mixed);
+    let moves = [(Logout(LATE_USER), 0, 1), (Activate(LATE_USER, manager), 0, 2 * manager + 1)];
+    let papers = [(Withdraw(LATE_USER, kind, LATE_USER), 0, 0), (Appoint(LATE_USER, LATE_USER, kind), 0, 0)];
+    let idle = [(Environment(40, 0), 0, 0)];
+    let invoke = [(Invoke(user, NO_PRIVILEGE), 0, 0)];
+    let effective = [(Effective(user, role, NO_PRIVILEGE), 0, 0)];
+    let mixed = [&moves[..], &papers, &idle, &invoke, &effective].concat();
+    let (whole, _) = with_events(&full, &asked(&mixed));
     let what = format!("program: a session of {} bytes", whole.len());
-    let diamond = |role| [Effective(0, role, NO_PRIVILEGE)];
+    let diamond = |role| [(Effective(0, role, NO_PRIVILEGE), 0, 0)];
     Ok(vec![
         Session::new(what, "full", [whole, String::new()], 1),
-        Session::of_events(&full, "full", "logout, then activate", &moves),
-        Session::of_events(&full, "full", "withdraw, then appoint", &papers),
-        Session::of_events(&full, "full", "environment, fells 0", &[Environment(40, 0)]),
-        Session::of_events(&full, "full", "invoke, none", &[invoke]),
-        Session::of_events(&full, "full", "effective, none", &[effective]),
-        Session::of_events(&Scene::diamond(&[])?, "diamond", "effective, none", &diamond(255)),
-        Session::of_events(&Scene::diamond_through_kinds()?, "diamond, kinds", "effective, none", &diamond(254)),
+        Session::of_events(&full, "full", "logout, then activate", &moves)?,
+        Session::of_events(&full, "full", "withdraw, then appoint", &papers)?,
+        Session::of_events(&full, "full", "environment, fells 0", &idle)?,
+        Session::of_events(&full, "full", "invoke, none", &invoke)?,
+        Session::of_events(&full, "full", "effective, none", &effective)?,
+        Session::of_events(&Scene::diamond(&[])?, "diamond", "effective, none", &diamond(255))?,
+        Session::of_events(&Scene::diamond_through_kinds()?, "diamond, kinds", "effective, none", &diamond(254))?,
     ])
 }

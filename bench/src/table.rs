@@ -1,16 +1,17 @@
 //! The tables: aligned text, or a page's.
 
-/// What was measured, ours and beside it the others; all in one unit.
+/// What was measured, ours and beside it the others, where they have the like; all in one unit.
 pub struct Line {
     pub what: String,
     pub tables: String,
     pub ours: f64,
-    pub others: Vec<f64>,
+    pub others: Vec<Option<f64>>,
 }
 
-/// A table's unit and who the others are.
+/// A table's unit and who the others are; the note says what a reader of its ratios must know, if anything.
 pub struct Head {
     pub title: &'static str,
+    pub note: &'static str,
     pub unit: &'static str,
     pub others: &'static [&'static str],
 }
@@ -38,7 +39,8 @@ fn head(head: &Head) -> Vec<String> {
 
 fn cells(line: &Line) -> Vec<String> {
     let first = [line.what.clone(), line.tables.clone(), number(line.ours)];
-    let others = line.others.iter().flat_map(|&other| [number(other), ratio(line.ours, other)]);
+    let none = || ["-".to_string(), "-".to_string()];
+    let others = line.others.iter().flat_map(|other| other.map_or_else(none, |other| [number(other), ratio(line.ours, other)]));
     first.into_iter().chain(others).collect()
 }
 
@@ -47,12 +49,14 @@ pub fn print(names: &Head, lines: &[Line], page: bool) {
     let rows = lines.iter().map(cells);
     if page {
         let columns = "---:|".repeat(head.len() - 2);
-        println!("### {}\n\n| {} |\n|---|---|{columns}", names.title, head.join(" | "));
+        let note = if names.note.is_empty() { String::new() } else { format!("{}\n\n", names.note) };
+        println!("### {}\n\n{note}| {} |\n|---|---|{columns}", names.title, head.join(" | "));
         rows.for_each(|row| println!("| {} |", row.join(" | ")));
     } else {
-        println!("{}", names.title);
+        [names.title, names.note].iter().filter(|text| !text.is_empty()).for_each(|text| println!("{text}"));
+        let widths: Vec<usize> = head[2..].iter().map(|name| name.chars().count().max(11)).collect();
         for row in std::iter::once(head).chain(rows) {
-            let numbers: String = row[2..].iter().map(|cell| format!(" {cell:>11}")).collect();
+            let numbers: String = row[2..].iter().zip(&widths).map(|(cell, &width)| format!(" {cell:>width$}")).collect();
             println!("{:41} {:25}{numbers}", row[0], row[1]);
         }
     }

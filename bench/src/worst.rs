@@ -34,7 +34,7 @@ impl Busy {
         }
         let [ours, second] = best.map(|time| time.as_secs_f64() * 1e3);
         let tables = format!("{events} events, {} bytes", text.len());
-        Ok(Line { what: self.what.into(), tables, ours, others: vec![second] })
+        Ok(Line { what: self.what.into(), tables, ours, others: vec![Some(second)] })
     }
 
     /// How many bytes the answers to the story have: each is accepted, an activation with its rule.
