@@ -2,7 +2,8 @@
 ghost use mathlib.Core.Path.{_≡_};
 ghost use Prim.Native.Nat.{ℕ, _+_, _/_, _<_, _≤_};
 ghost use mathlib.Core.List.{[]};
-ghost use lib.Dec.{ltb};
+ghost use mathlib.Core.Bool.{_&&_, cond};
+ghost use lib.Dec.{eqb, ltb};
 ghost use lib.ListN.{length, take, drop};
 ghost use Rattle.model.specs.Lists.{all, isZero};
 ghost use Rattle.model.specs.Limits.{roles as mostRoles};
@@ -51,19 +52,31 @@ fn condition_fits(kinds: &[u16], c: u16) -> bool
     false
 }
 
-// The first n of the conditions fit.
+// 0 if nothing is wrong with the condition: one of those that count fits, and one past them is 0.
+fn condition_over(kinds: &[u16], c: u16, counts: bool) -> u16
+    ensures { λ r. ⌜ eqb r 0 ≡ cond counts (conditionFits (kindsOnly (now (kinds .entry))) (meant c)) (isZero c) ⌝ }
+{
+    if counts {
+        if condition_fits(kinds, c) {
+            return 0;
+        }
+        return 1;
+    }
+    c
+}
+
+// The first n of the conditions fit, and those past n are 0. What is wrong is joined: all eight are looked at, in one way through the loop.
 fn conditions_fit(kinds: &[u16], conditions: [u16; 8], n: usize) -> bool
     requires { ⌜ n ≤ 8 ⌝ }
-    ensures { λ r. ⌜ r ≡ all (λ (c : ℕ). conditionFits (kindsOnly (now (kinds .entry))) (meant c)) (take n conditions) ⌝ }
+    ensures { λ r. ⌜ r ≡ (all (λ (c : ℕ). conditionFits (kindsOnly (now (kinds .entry))) (meant c)) (take n conditions) && all isZero (drop n conditions)) ⌝ }
 {
+    let mut over: u16 = 0;
     let mut j: usize = 0;
-    while j < n {
-        if !condition_fits(kinds, conditions[j]) {
-            return false;
-        }
+    while j < 8 {
+        over = over | condition_over(kinds, conditions[j], j < n);
         j += 1;
     }
-    true
+    over == 0
 }
 
 // "target role, n, m, then eight conditions, those past n being 0. m ≤ n ≤ 8."
@@ -84,9 +97,6 @@ fn rule_fits(rules: &[u16], kinds: &[u16], i: usize) -> bool
     let n = rule.n as usize;
     let conditions = rule.conditions;
     if !conditions_fit(kinds, conditions, n) {
-        return false;
-    }
-    if !all_zero(rules, i * RULE_WIDTH + 3 + n, 8 - n) {
         return false;
     }
     true
