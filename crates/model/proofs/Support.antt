@@ -5,7 +5,7 @@ use mathlib.Core.Path.{_≡_, refl, subst, subst⁻¹}
 use mathlib.Core.Bool.{Bool, true, false, not, _&&_}
 use mathlib.Core.Logic.{_⊎_, inl, inr}
 use mathlib.Core.List.{List, [], _∷_, _++_, List·Memᴰ, List·Memᴰ·head, List·Memᴰ·tail, List·Memᴰ·cases-cons, List·Memᴰ·not-nil, List·Memᴰ·append-cases, List·Memᴰ·eq-of-singleton, Memᴰ·append-left, Memᴰ·append-right}
-use lib.Dec.{T, eqb, ltb, eqb→eq, eqb-refl}
+use lib.Dec.{T, eqb, ltb, eqb→eq}
 use lib.ListN.{length, getD}
 use Rattle.model.specs.Lists.{all, allOverEarlier, joined}
 use Rattle.model.specs.Records.{Policy, State, World, worldOf}
@@ -47,9 +47,6 @@ isRow-user u q r t = eqb→eq (r .user) u (and-left (eqb (r .user) u) (eqb (r .r
 
 pub isRow-role : (u q : ℕ) (r : Row) → T (isRow u q r) → r .role ≡ q
 isRow-role u q r t = eqb→eq (r .role) q (and-right (eqb (r .user) u) (eqb (r .role) q) t)
-
-pub isRow-own : (r : Row) → T (isRow (r .user) (r .role) r)
-isRow-own r = and-both (eqb (r .user) (r .user)) (eqb (r .role) (r .role)) (eqb-refl (r .user)) (eqb-refl (r .role))
 
 pub active-of : (rows : List Row) (u q : ℕ) → T (active rows u q) → (r : Row) × List·Memᴰ r rows × T (isRow u q r)
 unfolding active

@@ -46,13 +46,6 @@ pub not-not-of : (b : Bool) → T b → T (not (not b))
 not-not-of true t = tt
 not-not-of false t = t
 
--- two tests that follow from each other are the same
-pub same-test : (a b : Bool) → (T a → T b) → (T b → T a) → a ≡ b
-same-test true true f g = refl
-same-test true false f g = absurd (f tt)
-same-test false true f g = absurd (g tt)
-same-test false false f g = refl
-
 pub lt-or-ge : (a b : ℕ) → (a < b) ⊎ (b ≤ a)
 lt-or-ge a b = go (decide (ltb a b))
   where
