@@ -31,9 +31,8 @@ pub struct Counts {
 impl Counts {
     pub fn add(&mut self, name: Name, answer: Answer) {
         let call = name as usize;
-        if let Some(count) = self.met[call].get_mut(usize::from(answer.code)) {
-            *count += 1;
-        }
+        let met = self.met[call].get_mut(usize::from(answer.code));
+        *met.expect("both sides gave a code that the outline does not have") += 1;
         self.greatest[call] = self.greatest[call].max(answer.second);
     }
 
