@@ -2,3 +2,4 @@ pub mod Clauses
 pub mod Parts
 pub mod Joined
 pub mod Rights
+pub mod Places

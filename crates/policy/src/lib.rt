@@ -2,16 +2,18 @@
 ghost use mathlib.Core.Path.{_≡_};
 ghost use Prim.Native.Nat.{ℕ, _+_, _/_, _<_, _≤_};
 ghost use mathlib.Core.List.{[]};
-ghost use mathlib.Core.Bool.{_&&_, cond};
+ghost use mathlib.Core.Bool.{false, _&&_, cond};
+ghost use mathlib.Core.Logic.{_≢_};
 ghost use lib.Dec.{eqb, ltb};
 ghost use lib.ListN.{length, take, drop};
 ghost use Rattle.model.specs.Lists.{all, isZero};
-ghost use Rattle.model.specs.Limits.{roles as mostRoles};
+ghost use Rattle.model.specs.Limits.{roles as mostRoles, mostKinds};
 ghost use Rattle.model.specs.Layout.{policyOf};
 ghost use Rattle.model.specs.Conditions.{meant};
 ghost use Rattle.model.specs.Sound.{conditionFits, ruleFits, kindFits, rightFits, soundPolicy};
 ghost use Rattle.table.specs.Entries.{ruleAt, kindAt, without-rights};
 ghost use Rattle.policy.specs.Lent.{lent, kindsOnly};
+ghost use Rattle.policy.specs.Counting.{Counting};
 use model::KIND_WIDTH;
 use model::PRIVILEGES;
 use model::RIGHT_WIDTH;
@@ -35,53 +37,139 @@ pub fn all_zero(numbers: &[u16], from: usize, count: usize) -> bool
     joined == 0
 }
 
-// "256 to 383 certificate kind .., which must be a row of the kinds table; .. 448 and above malformed."
-fn condition_fits(kinds: &[u16], c: u16) -> bool
-    ensures { λ r. ⌜ r ≡ conditionFits (kindsOnly (now (kinds .entry))) (meant c) ⌝ }
+// Where the conditions that are kinds end: 256 and as many more as there are kinds.
+fn end_of_kinds(kinds: &[u16]) -> u16
+    requires { ⌜ length (now kinds) / 7 ≤ mostKinds ⌝ }
+    ensures { λ r. ⌜ r ≡ 256 + length (now (kinds .entry)) / 7 ⌝ }
 {
-    if c < 256 {
-        return true;
-    }
-    if c < 384 {
-        let kind = (c - 256) as usize;
-        return kind < kinds.len() / KIND_WIDTH;
-    }
-    if c < 448 {
-        return true;
-    }
-    false
+    (256 + kinds.len() / KIND_WIDTH) as u16
 }
 
-// 0 if nothing is wrong with the condition: one of those that count fits, and one past them is 0.
-fn condition_over(kinds: &[u16], c: u16, counts: bool) -> u16
-    ensures { λ r. ⌜ eqb r 0 ≡ cond counts (conditionFits (kindsOnly (now (kinds .entry))) (meant c)) (isZero c) ⌝ }
+// "0 to 255 role; 256 to 383 certificate kind .., which must be a row of the kinds table; 384 to 447 fact; 448 and above malformed."
+// The facts are the numbers that have 64 six times.
+fn condition_fits(kinds: &[u16], c: u16) -> bool
+    requires { ⌜ length (now kinds) / 7 ≤ mostKinds ⌝ }
+    ensures { λ r. ⌜ r ≡ conditionFits (kindsOnly (now (kinds .entry))) (meant c) ⌝ }
 {
-    if counts {
-        if condition_fits(kinds, c) {
+    if c < end_of_kinds(kinds) {
+        return true;
+    }
+    c / 64 == 6
+}
+
+// Entry n * 8 + j is 1 if place j is one of the first n. What stands in a table needs no branch, so that the machine may judge eight
+// places in one step.
+fn counting() -> [u16; 72]
+    ensures { λ r. ⌜ Counting r ⌝ }
+{
+    [
+        0,
+        0,
+        0,
+        0,
+        0,
+        0,
+        0,
+        0,
+        1,
+        0,
+        0,
+        0,
+        0,
+        0,
+        0,
+        0,
+        1,
+        1,
+        0,
+        0,
+        0,
+        0,
+        0,
+        0,
+        1,
+        1,
+        1,
+        0,
+        0,
+        0,
+        0,
+        0,
+        1,
+        1,
+        1,
+        1,
+        0,
+        0,
+        0,
+        0,
+        1,
+        1,
+        1,
+        1,
+        1,
+        0,
+        0,
+        0,
+        1,
+        1,
+        1,
+        1,
+        1,
+        1,
+        0,
+        0,
+        1,
+        1,
+        1,
+        1,
+        1,
+        1,
+        1,
+        0,
+        1,
+        1,
+        1,
+        1,
+        1,
+        1,
+        1,
+        1,
+    ]
+}
+
+// 0 if nothing is wrong with the number: one that counts fits, and one past those is 0.
+fn wrong(x: u16, fits: bool, counts: bool) -> u16
+    requires { ⌜ (fits ≡ false → x ≢ 0) ⌝ }
+    ensures { λ r. ⌜ eqb r 0 ≡ cond counts fits (isZero x) ⌝ }
+{
+    if fits {
+        if counts {
             return 0;
         }
-        return 1;
+        return x;
     }
-    c
+    1
 }
 
 // The first n of the conditions fit, and those past n are 0. What is wrong is joined: all eight are looked at, in one way through the loop.
-fn conditions_fit(kinds: &[u16], conditions: [u16; 8], n: usize) -> bool
-    requires { ⌜ n ≤ 8 ⌝ }
+fn conditions_fit(kinds: &[u16], counting: &[u16], conditions: [u16; 8], n: usize) -> bool
+    requires { ⌜ (length (now kinds) / 7 ≤ mostKinds) × Counting (now counting) × (n ≤ 8) ⌝ }
     ensures { λ r. ⌜ r ≡ (all (λ (c : ℕ). conditionFits (kindsOnly (now (kinds .entry))) (meant c)) (take n conditions) && all isZero (drop n conditions)) ⌝ }
 {
     let mut over: u16 = 0;
     let mut j: usize = 0;
     while j < 8 {
-        over = over | condition_over(kinds, conditions[j], j < n);
+        let c = conditions[j];
+        over = over | wrong(c, condition_fits(kinds, c), counting[n * 8 + j] == 1);
         j += 1;
     }
     over == 0
 }
 
 // "target role, n, m, then eight conditions, those past n being 0. m ≤ n ≤ 8."
-fn rule_fits(rules: &[u16], kinds: &[u16], i: usize) -> bool
-    requires { ⌜ i < length (now rules) / 11 ⌝ }
+fn rule_fits(rules: &[u16], kinds: &[u16], counting: &[u16], i: usize) -> bool
+    requires { ⌜ (i < length (now rules) / 11) × (length (now kinds) / 7 ≤ mostKinds) × Counting (now counting) ⌝ }
     ensures { λ r. ⌜ r ≡ ruleFits (kindsOnly (now (kinds .entry))) (ruleAt (now (rules .entry)) i) ⌝ }
 {
     let rule = table::rule_at(rules, i);
@@ -96,19 +184,20 @@ fn rule_fits(rules: &[u16], kinds: &[u16], i: usize) -> bool
     }
     let n = rule.n as usize;
     let conditions = rule.conditions;
-    if !conditions_fit(kinds, conditions, n) {
+    if !conditions_fit(kinds, counting, conditions, n) {
         return false;
     }
     true
 }
 
-fn rules_fit(rules: &[u16], kinds: &[u16]) -> bool
+fn rules_fit(rules: &[u16], kinds: &[u16], counting: &[u16]) -> bool
+    requires { ⌜ (length (now kinds) / 7 ≤ mostKinds) × Counting (now counting) ⌝ }
     ensures { λ r. ⌜ r ≡ all (ruleFits (kindsOnly (now (kinds .entry)))) (policyOf (without-rights (now (rules .entry)) []) .rules) ⌝ }
 {
     let n = rules.len() / RULE_WIDTH;
     let mut i: usize = 0;
     while i < n {
-        if !rule_fits(rules, kinds, i) {
+        if !rule_fits(rules, kinds, counting, i) {
             return false;
         }
         i += 1;
@@ -116,24 +205,24 @@ fn rules_fit(rules: &[u16], kinds: &[u16]) -> bool
     true
 }
 
-// The first n of the roles are in range.
-fn roles_fit(roles: [u16; 4], n: usize) -> bool
-    requires { ⌜ n ≤ 4 ⌝ }
-    ensures { λ r. ⌜ r ≡ all (λ (q : ℕ). ltb q mostRoles) (take n roles) ⌝ }
+// The first n of the roles are in range, and those past n are 0.
+fn roles_fit(counting: &[u16], roles: [u16; 4], n: usize) -> bool
+    requires { ⌜ Counting (now counting) × (n ≤ 4) ⌝ }
+    ensures { λ r. ⌜ r ≡ (all (λ (q : ℕ). ltb q mostRoles) (take n roles) && all isZero (drop n roles)) ⌝ }
 {
+    let mut over: u16 = 0;
     let mut j: usize = 0;
-    while j < n {
-        if roles[j] >= ROLES {
-            return false;
-        }
+    while j < 4 {
+        let q = roles[j];
+        over = over | wrong(q, q < ROLES, counting[n * 8 + j] == 1);
         j += 1;
     }
-    true
+    over == 0
 }
 
 // "appointer role, mode, s, then four prerequisite roles, those past s being 0. s ≤ 4."
-fn kind_fits(kinds: &[u16], k: usize) -> bool
-    requires { ⌜ k < length (now kinds) / 7 ⌝ }
+fn kind_fits(kinds: &[u16], counting: &[u16], k: usize) -> bool
+    requires { ⌜ (k < length (now kinds) / 7) × Counting (now counting) ⌝ }
     ensures { λ r. ⌜ r ≡ kindFits (kindAt (now (kinds .entry)) k) ⌝ }
 {
     let kind = table::kind_at(kinds, k);
@@ -148,22 +237,20 @@ fn kind_fits(kinds: &[u16], k: usize) -> bool
     }
     let s = kind.s as usize;
     let roles = kind.prerequisites;
-    if !roles_fit(roles, s) {
-        return false;
-    }
-    if !all_zero(kinds, k * KIND_WIDTH + 3 + s, 4 - s) {
+    if !roles_fit(counting, roles, s) {
         return false;
     }
     true
 }
 
-fn kinds_fit(kinds: &[u16]) -> bool
+fn kinds_fit(kinds: &[u16], counting: &[u16]) -> bool
+    requires { ⌜ Counting (now counting) ⌝ }
     ensures { λ r. ⌜ r ≡ all kindFits (kindsOnly (now (kinds .entry)) .kinds) ⌝ }
 {
     let n = kinds.len() / KIND_WIDTH;
     let mut k: usize = 0;
     while k < n {
-        if !kind_fits(kinds, k) {
+        if !kind_fits(kinds, counting, k) {
             return false;
         }
         k += 1;
@@ -208,10 +295,11 @@ pub fn policy_sound(rules: &[u16], kinds: &[u16], rights: &[u16]) -> bool
     if rights.len() / RIGHT_WIDTH > 2048 {
         return false;
     }
-    if !rules_fit(rules, kinds) {
+    let counting = counting();
+    if !rules_fit(rules, kinds, &counting) {
         return false;
     }
-    if !kinds_fit(kinds) {
+    if !kinds_fit(kinds, &counting) {
         return false;
     }
     if !rights_fit(rights) {

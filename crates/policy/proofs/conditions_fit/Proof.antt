@@ -14,27 +14,53 @@ use Rattle.policy.proofs.Joined.{mixed, mixed-parts, mixed-more}
 use borrow.Author.Needs.{needs}
 use Rattle.policy.proofs.conditions_fit.Statement.{statement}
 use Rattle.policy.proofs.conditions_fit.Tie as tie
+use mathlib.Core.Path.{sym}
+use mathlib.Core.Bool.{cond}
+use lib.ListN.{getD}
+use Rattle.model.specs.Lists.{isZero}
+use Rattle.policy.proofs.Places.{unfit-not-zero}
 
 abbrev fits : List ℕ → ℕ → Bool
 fits kinds c = conditionFits (kindsOnly kinds) (meant c)
 
 abbrev Inv-loop : tie.InvT-loop
-Inv-loop kinds n conditions over₀ j₀ over j = (j ≤ 8) × (eqb over 0 ≡ mixed (fits kinds) n (take j conditions))
+Inv-loop kinds counting n conditions over₀ j₀ over j = (j ≤ 8) × (eqb over 0 ≡ mixed (fits kinds) n (take j conditions))
 
 abbrev μ-loop : tie.MeasureT-loop
-μ-loop kinds n conditions over₀ j₀ over j = 8 - j
+μ-loop kinds counting n conditions over₀ j₀ over j = 8 - j
 
 loop-holds : tie.Need-loop-holds Inv-loop μ-loop
 loop-holds c = (search needs, refl)
 
-mul-condition-over : tie.Need-mul-condition-over Inv-loop μ-loop
-mul-condition-over c = search needs
+-- src/lib.rt:93:17
+mul-c : tie.Need-mul-c Inv-loop μ-loop
+mul-c c = search needs
 
-array-read-condition-over : tie.Need-array-read-condition-over Inv-loop μ-loop
-array-read-condition-over c = search needs
+-- src/lib.rt:93:17
+array-read-c : tie.Need-array-read-c Inv-loop μ-loop
+array-read-c c = search needs
 
-condition-over-requires : tie.Need-condition-over-requires Inv-loop μ-loop
-condition-over-requires c κs = search needs
+-- src/lib.rt:94:32
+condition-fits-requires : tie.Need-condition-fits-requires Inv-loop μ-loop
+condition-fits-requires c κs = search needs
+
+-- src/lib.rt:94:67
+mul-wrong : tie.Need-mul-wrong Inv-loop μ-loop
+mul-wrong c = search needs
+
+-- src/lib.rt:94:67
+add-wrong : tie.Need-add-wrong Inv-loop μ-loop
+add-wrong c = search needs
+
+-- src/lib.rt:94:58
+mul-wrong-2 : tie.Need-mul-wrong-2 Inv-loop μ-loop
+mul-wrong-2 c = search needs
+
+shared-slice-read-wrong : tie.Need-shared-slice-read-wrong Inv-loop μ-loop
+shared-slice-read-wrong c = omega (arith, c .before .before .before .before .before .before .pre .1 .size)
+
+wrong-requires : tie.Need-wrong-requires Inv-loop μ-loop
+wrong-requires c κs = λ e. unfit-not-zero (c .before .before .before .before .before .before .args .kinds .now) _ (sym (c .before .condition-fits .ensures) ∙ e)
 
 add-j : tie.Need-add-j Inv-loop μ-loop
 add-j c = search needs
@@ -43,13 +69,13 @@ loop-less : tie.Need-loop-less Inv-loop μ-loop
 loop-less c = search needs
 
 loop-again : tie.Need-loop-again Inv-loop μ-loop
-loop-again c = (search needs, mixed-more (fits (c .before .before .before .before .args .kinds .now)) (c .before .before .before .before .args .n) (c .before .before .loop .j) (c .before .before .loop .over) (c .condition-over .result) (c .before .before .before .before .args .t2) (search needs) (c .before .before .loop .inv .1) (c .condition-over .ensures))
+loop-again c = (search needs, mixed-more (fits (c .before .before .before .before .before .before .before .args .kinds .now)) (c .before .before .before .before .before .before .before .args .n) (c .before .before .before .before .loop .j) (c .before .before .before .before .loop .over) (c .wrong .result) (c .before .before .before .before .before .before .before .args .t3) (search needs) (c .before .before .before .before .loop .inv .1) (c .wrong .ensures ∙ (λ i. cond (c .before .before .before .before .before .before .before .pre .1 .each (c .before .before .before .before .before .before .before .args .n) (c .before .before .before .before .loop .j) (c .before .before .before .before .before .before .before .pre .2) (c .before .before .before .loop-test .taken) i) (c .before .before .condition-fits .ensures i) (isZero (getD (c .before .before .before .before .before .before .before .args .t3) (c .before .before .before .before .loop .j) 0)))))
 
 returns : tie.Need-returns Inv-loop μ-loop
 returns c =
     let e : c .before .loop .j ≡ 8 = omega arith in
-    let z : length (c .before .before .before .args .t2) ≡ 8 = search needs in
-    c .before .loop .inv .1 ∙ ap (mixed (fits (c .before .before .before .args .kinds .now)) (c .before .before .before .args .n)) (take-all (c .before .loop .j) (c .before .before .before .args .t2) (omega (arith, e, z))) ∙ mixed-parts (fits (c .before .before .before .args .kinds .now)) (c .before .before .before .args .n) (c .before .before .before .args .t2)
+    let z : length (c .before .before .before .before .args .t3) ≡ 8 = search needs in
+    c .before .loop .inv .1 ∙ ap (mixed (fits (c .before .before .before .before .args .kinds .now)) (c .before .before .before .before .args .n)) (take-all (c .before .loop .j) (c .before .before .before .before .args .t3) (omega (arith, e, z))) ∙ mixed-parts (fits (c .before .before .before .before .args .kinds .now)) (c .before .before .before .before .args .n) (c .before .before .before .before .args .t3)
 
 pub conditions-fit-spec : {M : Type 1} → statement M
 conditions-fit-spec =
@@ -58,9 +84,14 @@ conditions-fit-spec =
     Inv-loop
     μ-loop
     loop-holds
-    mul-condition-over
-    array-read-condition-over
-    condition-over-requires
+    mul-c
+    array-read-c
+    condition-fits-requires
+    mul-wrong
+    add-wrong
+    mul-wrong-2
+    shared-slice-read-wrong
+    wrong-requires
     add-j
     loop-less
     loop-again

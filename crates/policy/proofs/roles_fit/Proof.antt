@@ -1,51 +1,72 @@
--- The invariant: the roles passed are in range.
+-- The invariant: what is wrong with the roles passed is joined, and it is zero exactly if nothing is.
 use Prim.Native.Nat.{ℕ, _≤_, _-_}
-use mathlib.Core.Path.{_≡_, refl, sym, ap, _∙_}
-use mathlib.Core.Bool.{Bool, true}
+use mathlib.Core.Path.{_≡_, refl, ap, _∙_}
+use mathlib.Core.Bool.{Bool, cond}
 use native.Mathlib.Omega.{arith}
-use lib.Dec.{ltb}
-use lib.ListN.{take}
-use borrow.Author.Tests.{lt-ltb, le-ltb}
-use Rattle.model.specs.Lists.{all}
-use Rattle.table.proofs.Entries.{all-next, all-miss}
+use lib.Dec.{eqb, ltb}
+use lib.ListN.{length, take, getD}
+use lib.Seq.{take-all}
+use Rattle.model.specs.Lists.{isZero}
+use Rattle.policy.proofs.Joined.{mixed, mixed-parts, mixed-more}
+use Rattle.policy.proofs.Places.{beyond-not-zero}
 use borrow.Author.Needs.{needs}
 use Rattle.policy.proofs.roles_fit.Statement.{statement}
 use Rattle.policy.proofs.roles_fit.Tie as tie
 
-abbrev test : ℕ → Bool
-test q = ltb q 256
+abbrev fits : ℕ → Bool
+fits q = ltb q 256
 
 abbrev Inv-loop : tie.InvT-loop
-Inv-loop n roles j₀ j = (j ≤ n) × (all test (take j roles) ≡ true)
+Inv-loop counting n roles over₀ j₀ over j = (j ≤ 4) × (eqb over 0 ≡ mixed fits n (take j roles))
 
 abbrev μ-loop : tie.MeasureT-loop
-μ-loop n roles j₀ j = n - j
+μ-loop counting n roles over₀ j₀ over j = 4 - j
 
 loop-holds : tie.Need-loop-holds Inv-loop μ-loop
 loop-holds c = (search needs, refl)
 
-mul-if1 : tie.Need-mul-if1 Inv-loop μ-loop
-mul-if1 c = search needs
+-- src/lib.rt:146:17
+mul-q : tie.Need-mul-q Inv-loop μ-loop
+mul-q c = search needs
 
-array-read-if1 : tie.Need-array-read-if1 Inv-loop μ-loop
-array-read-if1 c = search needs
+-- src/lib.rt:146:17
+array-read-q : tie.Need-array-read-q Inv-loop μ-loop
+array-read-q c = search needs
 
-returns : tie.Need-returns Inv-loop μ-loop
-returns c = sym (all-miss test (c .before .before .before .args .t1) 0 (c .before .before .before .args .n) (c .before .before .loop .j) (c .before .loop-test .taken) (search needs) (le-ltb _ 256 (c .if1 .taken)))
+-- src/lib.rt:147:52
+mul-wrong : tie.Need-mul-wrong Inv-loop μ-loop
+mul-wrong c = search needs
 
+-- src/lib.rt:147:52
+add-wrong : tie.Need-add-wrong Inv-loop μ-loop
+add-wrong c = search needs
+
+-- src/lib.rt:147:43
+mul-wrong-2 : tie.Need-mul-wrong-2 Inv-loop μ-loop
+mul-wrong-2 c = search needs
+
+shared-slice-read-wrong : tie.Need-shared-slice-read-wrong Inv-loop μ-loop
+shared-slice-read-wrong c = omega (arith, c .before .before .before .before .pre .0 .size)
+
+wrong-requires : tie.Need-wrong-requires Inv-loop μ-loop
+wrong-requires c κs = beyond-not-zero _
+
+-- src/lib.rt:148:9
 add-j : tie.Need-add-j Inv-loop μ-loop
 add-j c = search needs
 
+-- src/lib.rt:145:5
 loop-less : tie.Need-loop-less Inv-loop μ-loop
 loop-less c = search needs
 
 loop-again : tie.Need-loop-again Inv-loop μ-loop
-loop-again c = (search needs, all-next test (c .before .before .before .args .t1) 0 (c .before .before .loop .j) (search needs) (c .before .before .loop .inv .1) (lt-ltb _ 256 (c .if1 .left)))
+loop-again c = (search needs, mixed-more fits (c .before .before .before .before .before .args .n) (c .before .before .before .loop .j) (c .before .before .before .loop .over) (c .wrong .result) (c .before .before .before .before .before .args .t2) (search needs) (c .before .before .before .loop .inv .1) (c .wrong .ensures ∙ ap (λ (b : Bool). cond b (ltb (getD (c .before .before .before .before .before .args .t2) (c .before .before .before .loop .j) 0) 256) (isZero (getD (c .before .before .before .before .before .args .t2) (c .before .before .before .loop .j) 0))) (c .before .before .before .before .before .pre .0 .each (c .before .before .before .before .before .args .n) (c .before .before .before .loop .j) (omega (arith, c .before .before .before .before .before .pre .1)) (omega arith))))
 
-returns-2 : tie.Need-returns-2 Inv-loop μ-loop
-returns-2 c =
-    let e : c .before .loop .j ≡ c .before .before .args .n = omega arith in
-    sym (c .before .loop .inv .1) ∙ ap (λ (m : ℕ). all test (take m (c .before .before .args .t1))) e
+returns : tie.Need-returns Inv-loop μ-loop
+returns c =
+    let e : c .before .loop .j ≡ 4 = omega arith in
+    let z : length (c .before .before .before .args .t2) ≡ 4 = search needs in
+    c .before .loop .inv .1 ∙ ap (mixed fits (c .before .before .before .args .n)) (take-all (c .before .loop .j) (c .before .before .before .args .t2) (omega (arith, e, z))) ∙ mixed-parts fits (c .before .before .before .args .n) (c .before .before .before .args .t2)
 
 pub roles-fit-spec : {M : Type 1} → statement M
 roles-fit-spec =
@@ -54,10 +75,14 @@ roles-fit-spec =
     Inv-loop
     μ-loop
     loop-holds
-    mul-if1
-    array-read-if1
-    returns
+    mul-q
+    array-read-q
+    mul-wrong
+    add-wrong
+    mul-wrong-2
+    shared-slice-read-wrong
+    wrong-requires
     add-j
     loop-less
     loop-again
-    returns-2)
+    returns)

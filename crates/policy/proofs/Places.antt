@@ -1,0 +1,105 @@
+-- The table of places that count, and which numbers a condition may be.
+use Prim.Native.Nat.{ℕ, zero, suc, _+_, _*_, _-_, _/_, _≤_, _<_}
+use mathlib.Core.Path.{_≡_, refl, sym, ap, _∙_, subst}
+use mathlib.Core.Bool.{Bool, true, false, _&&_, cond, true≢false}
+use mathlib.Core.Logic.{_⊎_, inl, inr, _≢_}
+use mathlib.Core.List.{List, [], _∷_}
+use native.Mathlib.Omega.{arith}
+use lib.Dec.{T, eqb, ltb}
+use borrow.Author.Tests.{eq-eqb, ne-eqb, lt-ltb, le-ltb}
+use lib.ListN.{length, getD}
+use Rattle.model.specs.Lists.{isZero}
+use Rattle.model.specs.Layout.{kindFrom, policyOf}
+use Rattle.model.specs.Conditions.{meant}
+use Rattle.model.specs.Sound.{conditionFits}
+use Rattle.model.proofs.Tests.{is-true, of-true, lt-or-ge, and-left, and-right}
+use Rattle.table.proofs.Entries.{length-entries}
+use Rattle.policy.specs.Lent.{kindsOnly}
+use Rattle.policy.specs.Counting.{Counting}
+
+-- the test passes at each number below n
+abbrev below : (ℕ → Bool) → ℕ → Bool
+below test zero = true
+below test (suc n) = below test n && test n
+
+at : (test : ℕ → Bool) (n : ℕ) → T (below test n) → (k : ℕ) → k < n → test k ≡ true
+at test zero t k h = absurd (omega arith)
+at test (suc n) t k h = go (lt-or-ge k n) (at test n (and-left (below test n) (test n) t) k)
+  where
+    go : (k < n) ⊎ (n ≤ k) → (k < n → test k ≡ true) → test k ≡ true
+    go (inl l) earlier = earlier l
+    go (inr l) earlier = let e : n ≡ k = omega arith in subst (λ (m : ℕ). test m ≡ true) e (is-true (test n) (and-right (below test n) (test n) t))
+
+-- both or neither
+abbrev same : Bool → Bool → Bool
+same true b = b
+same false true = false
+same false false = true
+
+alike : (a b : Bool) → same a b ≡ true → a ≡ b
+alike true b e = sym e
+alike false true e = absurd (true≢false (sym e))
+alike false false e = refl
+
+abbrev table : List ℕ
+table =
+    0 ∷ 0 ∷ 0 ∷ 0 ∷ 0 ∷ 0 ∷ 0 ∷ 0 ∷ 1 ∷ 0 ∷ 0 ∷ 0 ∷ 0 ∷ 0 ∷ 0 ∷ 0 ∷ 1 ∷ 1 ∷ 0 ∷ 0 ∷ 0 ∷ 0 ∷ 0 ∷ 0 ∷ 1 ∷ 1 ∷ 1 ∷ 0 ∷ 0 ∷ 0 ∷ 0 ∷ 0 ∷ 1 ∷ 1 ∷ 1 ∷ 1 ∷ 0 ∷ 0 ∷ 0 ∷ 0
+    ∷ 1 ∷ 1 ∷ 1 ∷ 1 ∷ 1 ∷ 0 ∷ 0 ∷ 0 ∷ 1 ∷ 1 ∷ 1 ∷ 1 ∷ 1 ∷ 1 ∷ 0 ∷ 0 ∷ 1 ∷ 1 ∷ 1 ∷ 1 ∷ 1 ∷ 1 ∷ 1 ∷ 0 ∷ 1 ∷ 1 ∷ 1 ∷ 1 ∷ 1 ∷ 1 ∷ 1 ∷ 1 ∷ []
+
+abbrev agrees : ℕ → ℕ → Bool
+agrees n j = same (eqb (getD table (n * 8 + j) 0) 1) (ltb j n)
+
+pub counting-is : Counting table
+counting-is =
+    record {
+      size = refl;
+      each = λ n j h l. alike (eqb (getD table (n * 8 + j) 0) 1) (ltb j n) (at (agrees n) 8 (of-true (below (agrees n) 8) (at (λ (m : ℕ). below (agrees m) 8) 9 tt n (omega arith))) j l);
+    }
+
+-- a number that does not fit is not 0, which is a role
+module _ (kinds : List ℕ) (few : length kinds / 7 ≤ 128) (c end : ℕ) (ends : end ≡ 256 + length kinds / 7) where
+  has-row : ltb (c - 256) (length (kindsOnly kinds .kinds)) ≡ ltb (c - 256) (length kinds / 7)
+  unfolding policyOf
+  has-row = ap (ltb (c - 256)) (length-entries kindFrom 7 kinds (length kinds / 7))
+
+  pub fits-low : c < end → true ≡ conditionFits (kindsOnly kinds) (meant c)
+  unfolding meant conditionFits
+  fits-low l = go (lt-or-ge c 256)
+    where
+      go : (c < 256) ⊎ (256 ≤ c) → true ≡ conditionFits (kindsOnly kinds) (meant c)
+      go (inl h) = sym (rw (lt-ltb c 256 h) refl)
+      go (inr h) = sym (rw (le-ltb c 256 h, lt-ltb c 384 (omega arith)) (has-row ∙ lt-ltb (c - 256) (length kinds / 7) (omega arith)))
+
+  pub fits-high : end ≤ c → eqb (c / 64) 6 ≡ conditionFits (kindsOnly kinds) (meant c)
+  unfolding meant conditionFits
+  fits-high l = go (lt-or-ge c 384) (lt-or-ge c 448)
+    where
+      go : (c < 384) ⊎ (384 ≤ c) → (c < 448) ⊎ (448 ≤ c) → eqb (c / 64) 6 ≡ conditionFits (kindsOnly kinds) (meant c)
+      go (inl h) d = ne-eqb (c / 64) 6 (λ e. omega (arith, e)) ∙ sym (rw (le-ltb c 256 (omega arith), lt-ltb c 384 h) (has-row ∙ le-ltb (c - 256) (length kinds / 7) (omega arith)))
+      go (inr h) (inl k) = eq-eqb (c / 64) 6 (omega arith) ∙ sym (rw (le-ltb c 256 (omega arith), le-ltb c 384 h, lt-ltb c 448 k) refl)
+      go (inr h) (inr k) = ne-eqb (c / 64) 6 (λ e. omega (arith, e)) ∙ sym (rw (le-ltb c 256 (omega arith), le-ltb c 384 h, le-ltb c 448 k) refl)
+
+-- a condition of 0 fits
+pub unfit-not-zero : (kinds : List ℕ) (c : ℕ) → conditionFits (kindsOnly kinds) (meant c) ≡ false → c ≢ 0
+unfolding meant conditionFits
+unfit-not-zero kinds c e z = true≢false (sym (rw (lt-ltb c 256 (omega (arith, z))) refl) ∙ e)
+
+-- ── what is wrong with a number ──
+
+module _ (x : ℕ) (fits counts : Bool) where
+  pub counts-fits : fits ≡ true → counts ≡ true → true ≡ cond counts fits (isZero x)
+  counts-fits f c = sym (λ i. cond (c i) (f i) (isZero x))
+
+  pub past-fits : counts ≡ false → eqb x 0 ≡ cond counts fits (isZero x)
+  past-fits c = sym (ap (λ (b : Bool). cond b fits (isZero x)) c)
+
+  pub unfit : (fits ≡ false → x ≢ 0) → fits ≡ false → false ≡ cond counts fits (isZero x)
+  unfit n f = sym (go counts)
+    where
+      go : (b : Bool) → cond b fits (isZero x) ≡ false
+      go true = f
+      go false = ne-eqb x 0 (n f)
+
+-- a number that is no role is not 0
+pub beyond-not-zero : (q : ℕ) → ltb q 256 ≡ false → q ≢ 0
+beyond-not-zero q e z = true≢false (sym (lt-ltb q 256 (omega (arith, z))) ∙ e)
