@@ -210,34 +210,22 @@ module _ (text rules kinds rights : List ℕ) (at taken : ℕ) (c : Counts) (g :
             ∙ (λ i. steps (loading (sym e i) (sym (add-one taken) i)) (linesFrom text (nextAt text at)));
       }
 
+  -- what is loaded is what a machine that an event has reached goes on from
+  loaded : steps (loading (tablesOf rules kinds rights c) taken) (linesFrom text at) .written ≡ steps (running (tablesOf rules kinds rights c) (replicate 1602 0) taken []) (linesFrom text at) .written → Loads text rules kinds rights (record { at = at; taken = taken; rules = c .rules; kinds = c .kinds; rights = c .rights })
+  loaded e = record { in-text = g .in-text; few = g .few; rules-room = g .rules-room; kinds-room = g .kinds-room; rights-room = g .rights-room; goes-on = ap (λ (m : Machine). m .written) (g .so-far) ∙ e }
+
   pub going-stops : at < length text → hasRoom c (lineAt text at) ≡ false → Loads text rules kinds rights (record { at = at; taken = taken; rules = c .rules; kinds = c .kinds; rights = c .rights })
   going-stops h room =
-      record {
-        in-text = g .in-text;
-        few = g .few;
-        rules-room = g .rules-room;
-        kinds-room = g .kinds-room;
-        rights-room = g .rights-room;
-        goes-on =
-            ap (λ (m : Machine). m .written) (g .so-far)
-            ∙ ap (λ (ls : List Line). steps (loading (tablesOf rules kinds rights c) taken) ls .written) (lines-from text at h)
-            ∙ events-begin rules kinds rights c (omega (arith, g .rules-room, g .rules-size)) (omega (arith, g .kinds-room, g .kinds-size)) (omega (arith, g .rights-room, g .rights-size)) (lineAt text at) taken (linesFrom text (nextAt text at)) room
-            ∙ ap (λ (ls : List Line). steps (running (tablesOf rules kinds rights c) (replicate 1602 0) taken []) ls .written) (sym (lines-from text at h));
-      }
+      loaded
+      (ap (λ (ls : List Line). steps (loading (tablesOf rules kinds rights c) taken) ls .written) (lines-from text at h)
+      ∙ events-begin rules kinds rights c (omega (arith, g .rules-room, g .rules-size)) (omega (arith, g .kinds-room, g .kinds-size)) (omega (arith, g .rights-room, g .rights-size)) (lineAt text at) taken (linesFrom text (nextAt text at)) room
+      ∙ ap (λ (ls : List Line). steps (running (tablesOf rules kinds rights c) (replicate 1602 0) taken []) ls .written) (sym (lines-from text at h)))
 
   pub going-ends : length text ≤ at → Loads text rules kinds rights (record { at = at; taken = taken; rules = c .rules; kinds = c .kinds; rights = c .rights })
   going-ends h =
-      record {
-        in-text = g .in-text;
-        few = g .few;
-        rules-room = g .rules-room;
-        kinds-room = g .kinds-room;
-        rights-room = g .rights-room;
-        goes-on =
-            ap (λ (m : Machine). m .written) (g .so-far)
-            ∙ ap (λ (rs : List (List ℕ)). steps (loading (tablesOf rules kinds rights c) taken) (map lineOf rs) .written) (none-from text at h)
-            ∙ ap (λ (rs : List (List ℕ)). steps (running (tablesOf rules kinds rights c) (replicate 1602 0) taken []) (map lineOf rs) .written) (sym (none-from text at h));
-      }
+      loaded
+      (ap (λ (rs : List (List ℕ)). steps (loading (tablesOf rules kinds rights c) taken) (map lineOf rs) .written) (none-from text at h)
+      ∙ ap (λ (rs : List (List ℕ)). steps (running (tablesOf rules kinds rights c) (replicate 1602 0) taken []) (map lineOf rs) .written) (sym (none-from text at h)))
 
 -- the same of the line and the place that code has read
 pub going-to : (text rules kinds rights : List ℕ) (at taken : ℕ) (c : Counts) → Going text rules kinds rights at taken c → (rules′ kinds′ rights′ : List ℕ) (c′ : Counts) (line : Line) (next : ℕ) → line ≡ lineAt text at → next ≡ nextAt text at
