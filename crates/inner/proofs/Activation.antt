@@ -11,7 +11,7 @@ use Rattle.model.specs.Lists.{firstPlace}
 use Rattle.model.specs.Records.{withRows, worldOf}
 use Rattle.model.specs.Layout.{policyOf, decode, encode, rowCount, ruleFrom}
 use Rattle.model.specs.Conditions.{active, satisfied}
-use Rattle.model.specs.Outcome.{judgedFirst, given}
+use Rattle.model.specs.Outcome.{given}
 use Rattle.model.specs.Calls.{activate, isUser, isRole, someRuleSatisfied, lowestRule, activateOn, courseOf}
 use Rattle.model.specs.Words.{Sound, FirstApplies, none, here, later}
 use Rattle.model.specs.declared.Answer.{Answer}
@@ -21,16 +21,12 @@ use Rattle.table.proofs.Entries.{length-entries}
 use Rattle.table.proofs.Worlds.{satisfied-same}
 use Rattle.inner.specs.Lent.{lent, Answers}
 use Rattle.inner.proofs.First.{found-any, not-found}
-use Rattle.inner.proofs.Codes.{judged, refuses, accepts, out-of-range, in-range, found, row-length}
+use Rattle.inner.proofs.Codes.{own-refuses, own-accepts, out-of-range, in-range, found, row-length}
 
 module _ (rules kinds rights s : List ℕ) (h : Sound (lent rules kinds rights) s) (u q : ℕ) where
-  -- the code that the call's own refusals give is the answer's
-  own : {n : ℕ} → FirstApplies (activateOn (given (lent rules kinds rights) s []) u q .refusals) n → FirstApplies (courseOf (lent rules kinds rights) s [] (activate u q) .refusals) n
+  refused : (r : Answer) (code : ℕ) → 0 < code → (r .code ≡ code) × (r .second ≡ 0) → FirstApplies (activateOn (given (lent rules kinds rights) s []) u q .refusals) code → Answers (lent rules kinds rights) s (activate u q) r s
   unfolding courseOf
-  own f = judged (lent rules kinds rights) s h (activateOn (given (lent rules kinds rights) s []) u q) f
-
-  refused : (r : Answer) (code : ℕ) → Prim.Native.Nat._<_ 0 code → (r .code ≡ code) × (r .second ≡ 0) → FirstApplies (activateOn (given (lent rules kinds rights) s []) u q .refusals) code → Answers (lent rules kinds rights) s (activate u q) r s
-  refused r code n a f = refuses (lent rules kinds rights) s [] (activate u q) r code (omega arith) a (own f)
+  refused = own-refuses (lent rules kinds rights) s [] h (activate u q) _ refl
 
   pub no-user : (r : Answer) → (r .code ≡ 3) × (r .second ≡ 0) → 4096 ≤ u → Answers (lent rules kinds rights) s (activate u q) r s
   unfolding activateOn
@@ -73,8 +69,8 @@ module _ (rules kinds rights s : List ℕ) (h : Sound (lent rules kinds rights) 
         no-room r c l = refused r 6 (omega arith) c (later range (later (of-false (active (decode s .rows) u q) new) (later (found _ satisfied-now) (here (le→leb 256 (length (decode s .rows)) (omega (arith, row-length s)))))))
 
         pub granted : (r : Answer) (s′ : List ℕ) → rowCount s < 256 → r .code ≡ 0 → r .second ≡ i → s′ ≡ encode (withRows (decode s) (decode s .rows ++ (record { user = u; role = q; rule = i } ∷ []))) → Answers (lent rules kinds rights) s (activate u q) r s′
-        unfolding courseOf judgedFirst activateOn
+        unfolding courseOf activateOn
         granted r s′ l z e f =
-            accepts (lent rules kinds rights) s [] (activate u q) r s′ [] z
-            (own (later range (later (of-false (active (decode s .rows) u q) new) (later (found _ satisfied-now) (later (of-false (leb 256 (length (decode s .rows))) (lt-leb 256 (length (decode s .rows)) (omega (arith, row-length s)))) none)))))
+            own-accepts (lent rules kinds rights) s [] h (activate u q) _ refl r s′ [] z
+            (later range (later (of-false (active (decode s .rows) u q) new) (later (found _ satisfied-now) (later (of-false (leb 256 (length (decode s .rows))) (lt-leb 256 (length (decode s .rows)) (omega (arith, row-length s)))) none))))
             (e ∙ lowest-same) (f ∙ ap (λ (n : ℕ). encode (withRows (decode s) (decode s .rows ++ (record { user = u; role = q; rule = n } ∷ [])))) lowest-same) refl

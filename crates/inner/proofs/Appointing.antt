@@ -12,7 +12,6 @@ use Rattle.model.specs.Records.{withCertificates}
 use Rattle.model.specs.Layout.{policyOf, decode, encode, certificateCount}
 use Rattle.model.specs.Conditions.{kindNumbered, active}
 use Rattle.model.specs.Sound.{sameCertificate}
-use Rattle.model.specs.Outcome.{judgedFirst, given}
 use Rattle.model.specs.Calls.{appoint, isUser, hasRow, stands, appointOn, courseOf}
 use Rattle.model.specs.Words.{Sound, none, here, later}
 use Rattle.model.specs.declared.Answer.{Answer}
@@ -23,27 +22,23 @@ use Rattle.inner.proofs.First.{found-any, not-found}
 use Rattle.inner.proofs.Codes.{own-refuses, own-accepts, in-range, found, certificate-length, some-kind}
 
 module _ (rules kinds rights s : List ℕ) (h : Sound (lent rules kinds rights) s) (b a k : ℕ) where
-  appoint-is : courseOf (lent rules kinds rights) s [] (appoint b a k) ≡ judgedFirst (lent rules kinds rights) s (appointOn (given (lent rules kinds rights) s []) (record { appointee = a; kind = k; appointer = b }))
-  unfolding courseOf
-  appoint-is = refl
-
   pub appoint-out : (r : Answer) → (r .code ≡ 3) × (r .second ≡ 0) → T (not (every (isUser b ∷ isUser a ∷ hasRow (policyOf (lent rules kinds rights)) k ∷ []))) → Answers (lent rules kinds rights) s (appoint b a k) r s
-  unfolding appointOn
-  appoint-out r z o = own-refuses (lent rules kinds rights) s [] h (appoint b a k) _ appoint-is r 3 (omega arith) z (here o)
+  unfolding courseOf appointOn
+  appoint-out r z o = own-refuses (lent rules kinds rights) s [] h (appoint b a k) _ refl r 3 (omega arith) z (here o)
 
   module _ (in₁ : b < 4096) (in₂ : a < 4096) (in₃ : k < length kinds / 7) where
     range : T (not (not (every (isUser b ∷ isUser a ∷ hasRow (policyOf (lent rules kinds rights)) k ∷ []))))
     range = in-range (isUser b ∷ isUser a ∷ hasRow (policyOf (lent rules kinds rights)) k ∷ []) (lt→ltb b 4096 in₁, (lt→ltb a 4096 in₂, (some-kind rules kinds rights k in₃, tt)))
 
     pub appoint-not-in-role : (r : Answer) → (r .code ≡ 7) × (r .second ≡ 0) → active (decode s .rows) b (kindNumbered (policyOf (without-rights [] kinds)) k .appointer) ≡ false → Answers (lent rules kinds rights) s (appoint b a k) r s
-    unfolding appointOn policyOf
-    appoint-not-in-role r z e = own-refuses (lent rules kinds rights) s [] h (appoint b a k) _ appoint-is r 7 (omega arith) z (later range (here (of-false _ e)))
+    unfolding courseOf appointOn policyOf
+    appoint-not-in-role r z e = own-refuses (lent rules kinds rights) s [] h (appoint b a k) _ refl r 7 (omega arith) z (later range (here (of-false _ e)))
 
     module _ (in-role : active (decode s .rows) b (kindNumbered (policyOf (without-rights [] kinds)) k .appointer) ≡ true) (j : ℕ) (at : j ≡ firstPlace (sameCertificate (record { appointee = a; kind = k; appointer = b })) (decode s .certificates)) where
       pub appoint-stands : (r : Answer) → (r .code ≡ 8) × (r .second ≡ 0) → j < certificateCount s → Answers (lent rules kinds rights) s (appoint b a k) r s
-      unfolding appointOn policyOf
+      unfolding courseOf appointOn policyOf
       appoint-stands r z l =
-          own-refuses (lent rules kinds rights) s [] h (appoint b a k) _ appoint-is r 8 (omega arith) z
+          own-refuses (lent rules kinds rights) s [] h (appoint b a k) _ refl r 8 (omega arith) z
           (later range (later (found _ in-role) (here (of-true _ (found-any (sameCertificate (record { appointee = a; kind = k; appointer = b })) (decode s .certificates) (omega (arith, certificate-length s)))))))
 
       module _ (l : certificateCount s ≤ j) where
@@ -51,11 +46,11 @@ module _ (rules kinds rights s : List ℕ) (h : Sound (lent rules kinds rights) 
         new = not-found (sameCertificate (record { appointee = a; kind = k; appointer = b })) (decode s .certificates) (omega (arith, certificate-length s))
 
         pub appoint-full : (r : Answer) → (r .code ≡ 6) × (r .second ≡ 0) → 256 ≤ certificateCount s → Answers (lent rules kinds rights) s (appoint b a k) r s
-        unfolding appointOn policyOf
-        appoint-full r z m = own-refuses (lent rules kinds rights) s [] h (appoint b a k) _ appoint-is r 6 (omega arith) z (later range (later (found _ in-role) (later (of-false _ new) (here (le→leb 256 (length (decode s .certificates)) (omega (arith, certificate-length s)))))))
+        unfolding courseOf appointOn policyOf
+        appoint-full r z m = own-refuses (lent rules kinds rights) s [] h (appoint b a k) _ refl r 6 (omega arith) z (later range (later (found _ in-role) (later (of-false _ new) (here (le→leb 256 (length (decode s .certificates)) (omega (arith, certificate-length s)))))))
 
         pub appoint-done : (r : Answer) (s′ : List ℕ) → certificateCount s < 256 → (r .code ≡ 0) × (r .second ≡ 0) → s′ ≡ encode (withCertificates (decode s) (decode s .certificates ++ (record { appointee = a; kind = k; appointer = b } ∷ []))) → Answers (lent rules kinds rights) s (appoint b a k) r s′
-        unfolding appointOn policyOf
+        unfolding courseOf appointOn policyOf
         appoint-done r s′ m z e =
-            own-accepts (lent rules kinds rights) s [] h (appoint b a k) _ appoint-is r s′ [] (z .0)
+            own-accepts (lent rules kinds rights) s [] h (appoint b a k) _ refl r s′ [] (z .0)
             (later range (later (found _ in-role) (later (of-false _ new) (later (of-false _ (lt-leb 256 (length (decode s .certificates)) (omega (arith, certificate-length s)))) none)))) (z .1) e refl

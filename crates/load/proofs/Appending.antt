@@ -1,7 +1,7 @@
 -- One row more of a table, number by number, and a line of the policy as a row.
 use Prim.Native.Nat.{ℕ, zero, suc, _+_, _-_, _*_, _≤_, _<_}
 use mathlib.Core.Path.{_≡_, sym, ap, _∙_}
-use mathlib.Core.Bool.{true, false, cond, true≢false}
+use mathlib.Core.Bool.{Bool, true, false, cond, true≢false}
 use mathlib.Core.Logic.{_≢_, _⊎_, inl, inr}
 use mathlib.Core.List.{List, [], _∷_, _++_, append-nil, append-assoc}
 use native.Mathlib.Omega.{arith}
@@ -10,6 +10,7 @@ use lib.Dec.{eqb, ltb}
 use lib.ListN.{length, getD, take, drop, set}
 use lib.Seq.{take-suc, take-suc-set, drop-cons, drop-length}
 use borrow.Author.Tests.{ne-eqb, ltb-true}
+use Rattle.model.specs.Records.{Tables}
 use Rattle.model.specs.Layout.{number}
 use Rattle.model.proofs.Tests.{lt-or-ge}
 use Rattle.program.specs.Program.{ruleRow, kindRow, rightRow, withRow}
@@ -53,42 +54,43 @@ module _ (l : Line) (ten : length (l .numbers) ≡ 10) where
 
 -- ── one row more of one table ──
 
+-- what a line of the word w adds to the tables
+abbrev withWord : ℕ → Tables → Line → Tables
+withWord w t l = record { rules = cond (eqb w 0) (t .rules ++ ruleRow l) (t .rules); kinds = cond (eqb w 1) (t .kinds ++ kindRow l) (t .kinds); rights = cond (eqb w 2) (t .rights ++ rightRow l) (t .rights) }
+
+by-word : (t : Tables) (l : Line) {w : ℕ} → l .word ≡ w → withWord w t l ≡ withRow t l
+unfolding withRow
+by-word t l e = ap (λ (n : ℕ). withWord n t l) (sym e)
+
 module _ (rules kinds rights rules′ kinds′ rights′ : List ℕ) (c : Counts) (l : Line) where
   pub with-rule : l .word ≡ 0 → kinds′ ≡ kinds → rights′ ≡ rights → take (c .rules * 11 + 11) rules′ ≡ take (c .rules * 11) rules ++ ruleRow l → tablesOf rules′ kinds′ rights′ (record { rules = c .rules + 1; kinds = c .kinds; rights = c .rights }) ≡ withRow (tablesOf rules kinds rights c) l
-  unfolding withRow
   with-rule w k r e =
       let more : (c .rules + 1) * 11 ≡ c .rules * 11 + 11 = omega arith in
       (λ i. record { rules = (ap (λ (n : ℕ). take n rules′) more ∙ e) i; kinds = take (c .kinds * 7) (k i); rights = take (c .rights * 2) (r i) })
-      ∙ ap (λ (n : ℕ). record { rules = cond (eqb n 0) (take (c .rules * 11) rules ++ ruleRow l) (take (c .rules * 11) rules); kinds = cond (eqb n 1) (take (c .kinds * 7) kinds ++ kindRow l) (take (c .kinds * 7) kinds); rights = cond (eqb n 2) (take (c .rights * 2) rights ++ rightRow l) (take (c .rights * 2) rights) }) (sym w)
+      ∙ by-word (tablesOf rules kinds rights c) l w
 
   pub with-kind : l .word ≡ 1 → rules′ ≡ rules → rights′ ≡ rights → take (c .kinds * 7 + 7) kinds′ ≡ take (c .kinds * 7) kinds ++ kindRow l → tablesOf rules′ kinds′ rights′ (record { rules = c .rules; kinds = c .kinds + 1; rights = c .rights }) ≡ withRow (tablesOf rules kinds rights c) l
-  unfolding withRow
   with-kind w k r e =
       let more : (c .kinds + 1) * 7 ≡ c .kinds * 7 + 7 = omega arith in
       (λ i. record { rules = take (c .rules * 11) (k i); kinds = (ap (λ (n : ℕ). take n kinds′) more ∙ e) i; rights = take (c .rights * 2) (r i) })
-      ∙ ap (λ (n : ℕ). record { rules = cond (eqb n 0) (take (c .rules * 11) rules ++ ruleRow l) (take (c .rules * 11) rules); kinds = cond (eqb n 1) (take (c .kinds * 7) kinds ++ kindRow l) (take (c .kinds * 7) kinds); rights = cond (eqb n 2) (take (c .rights * 2) rights ++ rightRow l) (take (c .rights * 2) rights) }) (sym w)
+      ∙ by-word (tablesOf rules kinds rights c) l w
 
   pub with-right : l .word ≡ 2 → rules′ ≡ rules → kinds′ ≡ kinds → take (c .rights * 2 + 2) rights′ ≡ take (c .rights * 2) rights ++ rightRow l → tablesOf rules′ kinds′ rights′ (record { rules = c .rules; kinds = c .kinds; rights = c .rights + 1 }) ≡ withRow (tablesOf rules kinds rights c) l
-  unfolding withRow
   with-right w k r e =
       let more : (c .rights + 1) * 2 ≡ c .rights * 2 + 2 = omega arith in
       (λ i. record { rules = take (c .rules * 11) (k i); kinds = take (c .kinds * 7) (r i); rights = (ap (λ (n : ℕ). take n rights′) more ∙ e) i })
-      ∙ ap (λ (n : ℕ). record { rules = cond (eqb n 0) (take (c .rules * 11) rules ++ ruleRow l) (take (c .rules * 11) rules); kinds = cond (eqb n 1) (take (c .kinds * 7) kinds ++ kindRow l) (take (c .kinds * 7) kinds); rights = cond (eqb n 2) (take (c .rights * 2) rights ++ rightRow l) (take (c .rights * 2) rights) }) (sym w)
+      ∙ by-word (tablesOf rules kinds rights c) l w
 
 -- ── room ──
 
+-- whether there is room for a row of the word w
+abbrev roomFor : Counts → ℕ → Bool
+roomFor c w = cond (eqb w 0) (ltb (c .rules) 512) (cond (eqb w 1) (ltb (c .kinds) 128) (cond (eqb w 2) (ltb (c .rights) 2048) false))
+
 module _ (c : Counts) (l : Line) where
-  pub room-rule : l .word ≡ 0 → ltb (c .rules) 512 ≡ hasRoom c l
+  pub room : {w : ℕ} → l .word ≡ w → roomFor c w ≡ hasRoom c l
   unfolding hasRoom
-  room-rule e = ap (λ (n : ℕ). cond (eqb n 0) (ltb (c .rules) 512) (cond (eqb n 1) (ltb (c .kinds) 128) (cond (eqb n 2) (ltb (c .rights) 2048) false))) (sym e)
-
-  pub room-kind : l .word ≡ 1 → ltb (c .kinds) 128 ≡ hasRoom c l
-  unfolding hasRoom
-  room-kind e = ap (λ (n : ℕ). cond (eqb n 0) (ltb (c .rules) 512) (cond (eqb n 1) (ltb (c .kinds) 128) (cond (eqb n 2) (ltb (c .rights) 2048) false))) (sym e)
-
-  pub room-right : l .word ≡ 2 → ltb (c .rights) 2048 ≡ hasRoom c l
-  unfolding hasRoom
-  room-right e = ap (λ (n : ℕ). cond (eqb n 0) (ltb (c .rules) 512) (cond (eqb n 1) (ltb (c .kinds) 128) (cond (eqb n 2) (ltb (c .rights) 2048) false))) (sym e)
+  room e = ap (roomFor c) (sym e)
 
   pub room-none : l .word ≢ 0 → l .word ≢ 1 → l .word ≢ 2 → false ≡ hasRoom c l
   unfolding hasRoom
@@ -103,10 +105,10 @@ module _ (c : Counts) (l : Line) where
       go (inr k) = absurd (true≢false (sym h ∙ sym (room-none a b (λ e. omega arith))))
 
   pub rules-below : hasRoom c l ≡ true → l .word ≡ 0 → c .rules < 512
-  rules-below h e = ltb-true (c .rules) 512 (room-rule e ∙ h)
+  rules-below h e = ltb-true (c .rules) 512 (room e ∙ h)
 
   pub kinds-below : hasRoom c l ≡ true → l .word ≡ 1 → c .kinds < 128
-  kinds-below h e = ltb-true (c .kinds) 128 (room-kind e ∙ h)
+  kinds-below h e = ltb-true (c .kinds) 128 (room e ∙ h)
 
   pub rights-below : hasRoom c l ≡ true → l .word ≡ 2 → c .rights < 2048
-  rights-below h e = ltb-true (c .rights) 2048 (room-right e ∙ h)
+  rights-below h e = ltb-true (c .rights) 2048 (room e ∙ h)

@@ -6,6 +6,7 @@ use mathlib.Core.Bool.{Bool, true, false, _&&_, _||_, cond}
 use mathlib.Core.Logic.{_⊎_, inl, inr}
 use mathlib.Core.List.{List, [], _∷_, _++_, map}
 use native.Mathlib.Omega.{arith}
+use native.Mathlib.Nat.{mul-div-cancel}
 use native.Mathlib.Numerals.{add-one}
 use lib.Dec.{eqb, ltb, leb}
 use lib.ListN.{length, take, replicate}
@@ -25,28 +26,20 @@ use Rattle.reader.specs.Reading.{recordAt, lineAt, nextAt}
 use Rattle.reader.proofs.Walking.{lines-from, none-from, next-behind, next-within}
 use Rattle.load.specs.Rows.{tablesOf, hasRoom, running, linesFrom, Loads}
 use Rattle.load.specs.declared.Counts.{Counts}
-use Rattle.load.proofs.Appending.{room-rule, room-kind, room-right, rules-below, kinds-below, rights-below, is-right}
+use Rattle.load.proofs.Appending.{room, rules-below, kinds-below, rights-below, is-right}
 
 -- ── full, or not ──
 
-module _ (table : List ℕ) (n : ℕ) where
-  pub rules-free : n < 512 → n * 11 ≤ length table → isFull 512 11 (take (n * 11) table) ≡ false
-  rules-free h k = let e : n * 11 / 11 ≡ n = omega arith in ap (λ (m : ℕ). leb 512 (m / 11)) (length-take-le (n * 11) table k) ∙ ap (leb 512) e ∙ lt-leb 512 n h
+-- a table of n rows of any width
+module _ (most width : ℕ) (table : List ℕ) (n : ℕ) (wide : 0 < width) (size : n * width ≤ length table) where
+  counted-rows : isFull most width (take (n * width) table) ≡ leb most n
+  counted-rows = ap (λ (m : ℕ). leb most (m / width)) (length-take-le (n * width) table size) ∙ ap (leb most) (mul-div-cancel n wide)
 
-  pub kinds-free : n < 128 → n * 7 ≤ length table → isFull 128 7 (take (n * 7) table) ≡ false
-  kinds-free h k = let e : n * 7 / 7 ≡ n = omega arith in ap (λ (m : ℕ). leb 128 (m / 7)) (length-take-le (n * 7) table k) ∙ ap (leb 128) e ∙ lt-leb 128 n h
+  free : n < most → isFull most width (take (n * width) table) ≡ false
+  free h = counted-rows ∙ lt-leb most n h
 
-  pub rights-free : n < 2048 → n * 2 ≤ length table → isFull 2048 2 (take (n * 2) table) ≡ false
-  rights-free h k = let e : n * 2 / 2 ≡ n = omega arith in ap (λ (m : ℕ). leb 2048 (m / 2)) (length-take-le (n * 2) table k) ∙ ap (leb 2048) e ∙ lt-leb 2048 n h
-
-  pub rules-full : 512 ≤ n → n * 11 ≤ length table → isFull 512 11 (take (n * 11) table) ≡ true
-  rules-full h k = let e : n * 11 / 11 ≡ n = omega arith in ap (λ (m : ℕ). leb 512 (m / 11)) (length-take-le (n * 11) table k) ∙ ap (leb 512) e ∙ le-leb 512 n h
-
-  pub kinds-full : 128 ≤ n → n * 7 ≤ length table → isFull 128 7 (take (n * 7) table) ≡ true
-  kinds-full h k = let e : n * 7 / 7 ≡ n = omega arith in ap (λ (m : ℕ). leb 128 (m / 7)) (length-take-le (n * 7) table k) ∙ ap (leb 128) e ∙ le-leb 128 n h
-
-  pub rights-full : 2048 ≤ n → n * 2 ≤ length table → isFull 2048 2 (take (n * 2) table) ≡ true
-  rights-full h k = let e : n * 2 / 2 ≡ n = omega arith in ap (λ (m : ℕ). leb 2048 (m / 2)) (length-take-le (n * 2) table k) ∙ ap (leb 2048) e ∙ le-leb 2048 n h
+  full : most ≤ n → isFull most width (take (n * width) table) ≡ true
+  full h = counted-rows ∙ le-leb most n h
 
 -- ── a stopped machine stays ──
 
@@ -124,11 +117,11 @@ module _ (rules kinds rights : List ℕ) (c : Counts) (size₁ : c .rules * 11 �
   room-good h = go (lt-or-ge (l .word) 1) (lt-or-ge (l .word) 2)
     where
       go : (l .word < 1) ⊎ (1 ≤ l .word) → (l .word < 2) ⊎ (2 ≤ l .word) → (some (l .word) full₁ full₂ full₃ false ≡ false) × (l .word < 3)
-      go (inl a) b = let e : l .word ≡ 0 = omega arith in ((λ i. some (e i) (rules-free rules (c .rules) (rules-below c l h e) size₁ i) full₂ full₃ false), omega arith)
-      go (inr a) (inl b) = let e : l .word ≡ 1 = omega arith in ((λ i. some (e i) full₁ (kinds-free kinds (c .kinds) (kinds-below c l h e) size₂ i) full₃ false), omega arith)
+      go (inl a) b = let e : l .word ≡ 0 = omega arith in ((λ i. some (e i) (free 512 11 rules (c .rules) (omega arith) size₁ (rules-below c l h e) i) full₂ full₃ false), omega arith)
+      go (inr a) (inl b) = let e : l .word ≡ 1 = omega arith in ((λ i. some (e i) full₁ (free 128 7 kinds (c .kinds) (omega arith) size₂ (kinds-below c l h e) i) full₃ false), omega arith)
       go (inr a) (inr b) =
           let e : l .word ≡ 2 = is-right c l h (λ z. omega arith) (λ z. omega arith) in
-          ((λ i. some (e i) full₁ full₂ (rights-free rights (c .rights) (rights-below c l h e) size₃ i) false), omega (arith, e))
+          ((λ i. some (e i) full₁ full₂ (free 2048 2 rights (c .rights) (omega arith) size₃ (rights-below c l h e) i) false), omega (arith, e))
 
   pub row-taken : (taken : ℕ) → hasRoom c l ≡ true → step (loading (tablesOf rules kinds rights c) taken) l ≡ loading (withRow (tablesOf rules kinds rights c) l) (suc taken)
   unfolding afterPolicy
@@ -139,9 +132,9 @@ module _ (rules kinds rights : List ℕ) (c : Counts) (size₁ : c .rules * 11 �
   no-room h k came = go (lt-or-ge (l .word) 1) (lt-or-ge (l .word) 2)
     where
       go : (l .word < 1) ⊎ (1 ≤ l .word) → (l .word < 2) ⊎ (2 ≤ l .word) → some (l .word) full₁ full₂ full₃ came ≡ true
-      go (inl a) b = let e : l .word ≡ 0 = omega arith in λ i. some (e i) (rules-full rules (c .rules) (ltb-false (c .rules) 512 (room-rule c l e ∙ h)) size₁ i) full₂ full₃ came
-      go (inr a) (inl b) = let e : l .word ≡ 1 = omega arith in λ i. some (e i) full₁ (kinds-full kinds (c .kinds) (ltb-false (c .kinds) 128 (room-kind c l e ∙ h)) size₂ i) full₃ came
-      go (inr a) (inr b) = let e : l .word ≡ 2 = omega arith in λ i. some (e i) full₁ full₂ (rights-full rights (c .rights) (ltb-false (c .rights) 2048 (room-right c l e ∙ h)) size₃ i) came
+      go (inl a) b = let e : l .word ≡ 0 = omega arith in λ i. some (e i) (full 512 11 rules (c .rules) (omega arith) size₁ (ltb-false (c .rules) 512 (room c l e ∙ h)) i) full₂ full₃ came
+      go (inr a) (inl b) = let e : l .word ≡ 1 = omega arith in λ i. some (e i) full₁ (full 128 7 kinds (c .kinds) (omega arith) size₂ (ltb-false (c .kinds) 128 (room c l e ∙ h)) i) full₃ came
+      go (inr a) (inr b) = let e : l .word ≡ 2 = omega arith in λ i. some (e i) full₁ full₂ (full 2048 2 rights (c .rights) (omega arith) size₃ (ltb-false (c .rights) 2048 (room c l e ∙ h)) i) came
 
   -- so the program goes on as if an event had come
   pub events-begin : (taken : ℕ) (ls : List Line) → hasRoom c l ≡ false → steps (loading (tablesOf rules kinds rights c) taken) (l ∷ ls) .written ≡ steps (running (tablesOf rules kinds rights c) (replicate 1602 0) taken []) (l ∷ ls) .written
@@ -217,34 +210,22 @@ module _ (text rules kinds rights : List ℕ) (at taken : ℕ) (c : Counts) (g :
             ∙ (λ i. steps (loading (sym e i) (sym (add-one taken) i)) (linesFrom text (nextAt text at)));
       }
 
+  -- what is loaded is what a machine that an event has reached goes on from
+  loaded : steps (loading (tablesOf rules kinds rights c) taken) (linesFrom text at) .written ≡ steps (running (tablesOf rules kinds rights c) (replicate 1602 0) taken []) (linesFrom text at) .written → Loads text rules kinds rights (record { at = at; taken = taken; rules = c .rules; kinds = c .kinds; rights = c .rights })
+  loaded e = record { in-text = g .in-text; few = g .few; rules-room = g .rules-room; kinds-room = g .kinds-room; rights-room = g .rights-room; goes-on = ap (λ (m : Machine). m .written) (g .so-far) ∙ e }
+
   pub going-stops : at < length text → hasRoom c (lineAt text at) ≡ false → Loads text rules kinds rights (record { at = at; taken = taken; rules = c .rules; kinds = c .kinds; rights = c .rights })
   going-stops h room =
-      record {
-        in-text = g .in-text;
-        few = g .few;
-        rules-room = g .rules-room;
-        kinds-room = g .kinds-room;
-        rights-room = g .rights-room;
-        goes-on =
-            ap (λ (m : Machine). m .written) (g .so-far)
-            ∙ ap (λ (ls : List Line). steps (loading (tablesOf rules kinds rights c) taken) ls .written) (lines-from text at h)
-            ∙ events-begin rules kinds rights c (omega (arith, g .rules-room, g .rules-size)) (omega (arith, g .kinds-room, g .kinds-size)) (omega (arith, g .rights-room, g .rights-size)) (lineAt text at) taken (linesFrom text (nextAt text at)) room
-            ∙ ap (λ (ls : List Line). steps (running (tablesOf rules kinds rights c) (replicate 1602 0) taken []) ls .written) (sym (lines-from text at h));
-      }
+      loaded
+      (ap (λ (ls : List Line). steps (loading (tablesOf rules kinds rights c) taken) ls .written) (lines-from text at h)
+      ∙ events-begin rules kinds rights c (omega (arith, g .rules-room, g .rules-size)) (omega (arith, g .kinds-room, g .kinds-size)) (omega (arith, g .rights-room, g .rights-size)) (lineAt text at) taken (linesFrom text (nextAt text at)) room
+      ∙ ap (λ (ls : List Line). steps (running (tablesOf rules kinds rights c) (replicate 1602 0) taken []) ls .written) (sym (lines-from text at h)))
 
   pub going-ends : length text ≤ at → Loads text rules kinds rights (record { at = at; taken = taken; rules = c .rules; kinds = c .kinds; rights = c .rights })
   going-ends h =
-      record {
-        in-text = g .in-text;
-        few = g .few;
-        rules-room = g .rules-room;
-        kinds-room = g .kinds-room;
-        rights-room = g .rights-room;
-        goes-on =
-            ap (λ (m : Machine). m .written) (g .so-far)
-            ∙ ap (λ (rs : List (List ℕ)). steps (loading (tablesOf rules kinds rights c) taken) (map lineOf rs) .written) (none-from text at h)
-            ∙ ap (λ (rs : List (List ℕ)). steps (running (tablesOf rules kinds rights c) (replicate 1602 0) taken []) (map lineOf rs) .written) (sym (none-from text at h));
-      }
+      loaded
+      (ap (λ (rs : List (List ℕ)). steps (loading (tablesOf rules kinds rights c) taken) (map lineOf rs) .written) (none-from text at h)
+      ∙ ap (λ (rs : List (List ℕ)). steps (running (tablesOf rules kinds rights c) (replicate 1602 0) taken []) (map lineOf rs) .written) (sym (none-from text at h)))
 
 -- the same of the line and the place that code has read
 pub going-to : (text rules kinds rights : List ℕ) (at taken : ℕ) (c : Counts) → Going text rules kinds rights at taken c → (rules′ kinds′ rights′ : List ℕ) (c′ : Counts) (line : Line) (next : ℕ) → line ≡ lineAt text at → next ≡ nextAt text at

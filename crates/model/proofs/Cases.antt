@@ -1,5 +1,5 @@
--- The ten cases that "At the edges" marks P, as one table under one statement, which holds by computation.
--- The wanted answers are worked out from the document.
+-- The ten cases that "At the edges" marks P, as one table under one statement, which holds by computation; and five more cases, of what
+-- the document allows or asks in a single sentence, as a second table. The wanted answers are worked out from the document.
 use Prim.Native.Nat.{ℕ, zero, suc, _+_, _*_, _-_}
 use mathlib.Core.Path.{_≡_, refl}
 use mathlib.Core.Bool.{Bool, true, _&&_}
@@ -192,3 +192,69 @@ table =
 cases : all (all goesRight) table ≡ true
 unfolding table worked last-user outlives wrong-length last-row full-and-unsatisfied two-appointers false-twice own-target malformed-and-unsound policyOf decode encode meant active someStands holds satisfied supported rolesAsked restsOn left conditionFits ruleClauses kindClauses rightClauses policyClauses rowClauses certificateClauses formClauses soundRecords sound direct effectively judgedFirst decided settled activateOn appointOn revokeOn withdrawOn environmentOn logoutOn allowed invokeOn effectiveOn chainOn freshOn courseOf answer
 cases = refl
+
+-- "Repeats are allowed.": a condition, a prerequisite role and a right stand twice
+repeats : List Session
+repeats =
+    record {
+      tables = record { rules = rule 1 0 [] ++ rule 2 2 (1 ∷ 1 ∷ []); kinds = kind 1 0 (1 ∷ 1 ∷ []); rights = 2 ∷ 7 ∷ 2 ∷ 7 ∷ [] };
+      state = zeros;
+      steps = (activate 6 1 gives 0 and 0) ∷ (activate 6 2 gives 0 and 1) ∷ (invoke 6 7 gives 0 and 1) ∷ [];
+    }
+    ∷ []
+
+-- "Appointing oneself is allowed."
+oneself : List Session
+oneself =
+    record {
+      tables = record { rules = rule 1 0 [] ++ rule 2 1 (256 ∷ []); kinds = kind 1 0 []; rights = [] };
+      state = zeros;
+      steps = (activate 6 1 gives 0 and 0) ∷ (appoint 6 6 0 gives 0 and 0) ∷ (activate 6 2 gives 0 and 1) ∷ [];
+    }
+    ∷ []
+
+-- "Without rows it is accepted with 0.": before any row, beside another user's row, and a second time
+without-rows : List Session
+without-rows =
+    record {
+      tables = open-house;
+      state = zeros;
+      steps = (logout 6 gives 0 and 0) ∷ (activate 5 1 gives 0 and 0) ∷ (logout 6 gives 0 and 0) ∷ (logout 5 gives 0 and 1) ∷ (logout 5 gives 0 and 0) ∷ [];
+    }
+    ∷ []
+
+-- "Kind 127 with 127 rows: 3." With 128 it is accepted. The kinds are rows of zeros: appointer role 0, and no prerequisites
+last-kind : List Session
+last-kind =
+    record { tables = kinds-of 127; state = zeros; steps = (activate 6 0 gives 0 and 0) ∷ (appoint 6 7 127 gives 3 and 0) ∷ (appoint 6 7 126 gives 0 and 0) ∷ [] }
+    ∷ record { tables = kinds-of 128; state = zeros; steps = (activate 6 0 gives 0 and 0) ∷ (appoint 6 7 127 gives 0 and 0) ∷ [] }
+    ∷ []
+  where
+    kinds-of : ℕ → Tables
+    kinds-of n = record { rules = rule 0 0 []; kinds = replicate (n * 7) 0; rights = [] }
+
+-- "Prerequisite of a certificate falls: the role resting on it falls." Role 3 rests on a certificate that asks for role 2, and role 2
+-- on fact 0
+prerequisite-falls : List Session
+prerequisite-falls =
+    record {
+      tables = record { rules = rule 1 0 [] ++ rule 2 1 (384 ∷ []) ++ rule 3 1 (256 ∷ []); kinds = kind 1 0 (2 ∷ []); rights = [] };
+      state = zeros;
+      steps =
+          (environment 0 1 gives 0 and 0)
+          ∷ (activate 5 1 gives 0 and 0)
+          ∷ (appoint 5 8 0 gives 0 and 0)
+          ∷ (activate 8 3 gives 5 and 0)
+          ∷ (activate 8 2 gives 0 and 1)
+          ∷ (activate 8 3 gives 0 and 2)
+          ∷ (environment 0 0 gives 0 and 2)
+          ∷ [];
+    }
+    ∷ []
+
+further : List (List Session)
+further = repeats ∷ oneself ∷ without-rows ∷ last-kind ∷ prerequisite-falls ∷ []
+
+further-cases : all (all goesRight) further ≡ true
+unfolding further repeats oneself without-rows last-kind prerequisite-falls policyOf decode encode meant active someStands holds satisfied supported rolesAsked restsOn left conditionFits ruleClauses kindClauses rightClauses policyClauses rowClauses certificateClauses formClauses soundRecords sound direct effectively judgedFirst decided settled activateOn appointOn revokeOn withdrawOn environmentOn logoutOn allowed invokeOn effectiveOn chainOn freshOn courseOf answer
+further-cases = refl

@@ -1,13 +1,13 @@
 -- Revoke, withdraw, environment and logout: what goes, what falls with it, and that the code's answers are the model's.
 use Prim.Native.Nat.{ℕ, zero, suc, _+_, _≤_, _<_, _/_}
 use mathlib.Core.Path.{_≡_, refl, sym, ap, _∙_, subst, subst⁻¹}
-use mathlib.Core.Bool.{Bool, true, false, not, _||_, cond}
+use mathlib.Core.Bool.{Bool, true, false, not, _&&_, _||_, cond}
 use mathlib.Core.Logic.{_⊎_, inl, inr}
 use mathlib.Core.List.{List, [], _∷_, _++_, List·Memᴰ, Memᴰ·append-right, List·Memᴰ·head, List·Memᴰ·tail, List·Memᴰ·cases-cons}
 use native.Mathlib.Omega.{arith}
 use lib.Dec.{T, eqb, ltb, eqb→eq, lt→ltb, le→leb}
-use lib.ListN.{length, take, drop, length-take, length-drop, length-append}
-use borrow.Author.Tests.{le-ltb}
+use lib.ListN.{length, getD, take, drop, length-take, length-drop, length-append}
+use borrow.Author.Tests.{lt-ltb, le-ltb}
 use Rattle.model.specs.Lists.{any, every, allOverEarlier, without, firstPlace, isBit}
 use Rattle.model.specs.Limits.{facts}
 use Rattle.model.specs.Records.{Policy, State, worldOf, withRows, withCertificates, withFact}
@@ -15,13 +15,14 @@ use Rattle.model.specs.Layout.{policyOf, decode, encode, certificateCount}
 use Rattle.model.specs.Conditions.{kindNumbered, supported}
 use Rattle.model.specs.Left.{left}
 use Rattle.model.specs.Sound.{sameCertificate, certificateClauses, certificateSound, wellFormed}
-use Rattle.model.specs.Outcome.{judgedFirst, given}
-use Rattle.model.specs.Calls.{revoke, withdraw, environment, logout, isUser, hasRow, stands, ofUser, mayRevoke, withoutCertificate, settled, revokeOn, withdrawOn, environmentOn, logoutOn, courseOf}
-use Rattle.model.specs.Words.{Fits, Sound, none, here, later}
+use Rattle.model.specs.Outcome.{Course, Keeps, firstCode, judgedFirst, decided, given}
+use Rattle.model.specs.Calls.{Call, revoke, withdraw, environment, logout, isUser, hasRow, stands, ofUser, mayRevoke, withoutCertificate, settled, revokeOn, withdrawOn, environmentOn, logoutOn, courseOf, answer}
+use Rattle.model.specs.Words.{Fits, Sound, FirstApplies, none, here, later}
 use Rattle.model.specs.declared.Answer.{Answer}
 use Rattle.model.specs.declared.Row.{Row}
 use Rattle.model.specs.declared.Certificate.{Certificate}
 use Rattle.model.proofs.Tests.{and-right, is-true, of-true, of-false, not-of, refute, each, of-each, earlier-of}
+use Rattle.model.proofs.Refusals.{first-applies, only-first}
 use Rattle.model.proofs.Parts.{without-none}
 use Rattle.model.proofs.Numbers.{decode-encode, encode-formed, sound-decode}
 use Rattle.model.proofs.Kept.{sound-certificates, fact-fits}
@@ -32,8 +33,9 @@ use Rattle.fall.specs.Changes.{Left}
 use Rattle.fall.proofs.Form.{formed, sized}
 use Rattle.inner.specs.Lent.{lent, Answers}
 use Rattle.inner.proofs.First.{found-any, not-found}
-use Rattle.inner.proofs.Codes.{own-refuses, own-accepts, out-of-range, in-range, found, certificate-length, some-kind}
+use Rattle.inner.proofs.Codes.{judged, own-refuses, own-accepts, out-of-range, in-range, found, certificate-length, some-kind}
 use Rattle.taking.specs.Fallen.{Fallen, fallenRows}
+use Rattle.taking.specs.Taken.{takenOn, Comes}
 
 -- ── a change, and the fall after it ──
 
@@ -122,123 +124,106 @@ same-fall : (rules kinds rights : List ℕ) (v : State) → fallenRows rules kin
 unfolding policyOf
 same-fall rules kinds rights v = λ i. left (supported-same (policyOf (without-rights rules kinds)) (policyOf (lent rules kinds rights)) v refl refl i) (v .rows)
 
+-- a course that is refused, and one that is not
+refused-comes : (course : Course) (s : List ℕ) (r : Answer) (code : ℕ) → 0 < code → (r .code ≡ code) × (r .second ≡ 0) → FirstApplies (course .refusals) code → Comes course s r s
+unfolding decided
+refused-comes course s r code p z f = subst (λ (n : ℕ). Keeps (decided n s [] (course .effect)) (r .code) (r .second) s []) (only-first f) (go code p z)
+  where
+    go : (n : ℕ) → 0 < n → (r .code ≡ n) × (r .second ≡ 0) → Keeps (decided n s [] (course .effect)) (r .code) (r .second) s []
+    go zero p z = absurd (omega arith)
+    go (suc n) p z = record { code-kept = z .0; second-kept = z .1; state-kept = refl; list-kept = refl }
+
+accepted-comes : (course : Course) (s s′ : List ℕ) (r : Answer) → r .code ≡ 0 → FirstApplies (course .refusals) 0 → r .second ≡ course .effect .second → s′ ≡ encode (course .effect .state) → [] ≡ course .effect .list → Comes course s r s′
+unfolding decided
+accepted-comes course s s′ r z f a b l = subst (λ (n : ℕ). Keeps (decided n s [] (course .effect)) (r .code) (r .second) s′ []) (only-first f) (record { code-kept = z; second-kept = a; state-kept = b; list-kept = l })
+
 module _ (rules kinds rights s : List ℕ) (h : Sound (lent rules kinds rights) s) where
-  -- the certificate c, found at j, goes and the rows fall: the numbers are the effect's
-  module _ (c : Certificate) (j : ℕ) (at : j ≡ firstPlace (sameCertificate c) (decode s .certificates)) (exists : j < certificateCount s) (s′ : List ℕ) (lost : ℕ)
-      (fell : Fallen rules kinds (withCertificates (decode s) (take j (decode s .certificates) ++ drop (suc j) (decode s .certificates))) s′ lost) where
-    it-stands : stands (decode s) c ≡ true
-    it-stands = found-any (sameCertificate c) (decode s .certificates) (omega (arith, certificate-length s))
+  -- on sound tables a call comes to what its own course comes to
+  on-sound : (c : Call) (course : Course) → courseOf (lent rules kinds rights) s [] c ≡ judgedFirst (lent rules kinds rights) s course → (r : Answer) (s′ : List ℕ) → Comes course s r s′ → Answers (lent rules kinds rights) s c r s′
+  unfolding answer judgedFirst
+  on-sound c course is r s′ k =
+      subst (λ (x : Course). Keeps (decided (firstCode (x .refusals)) s [] (x .effect)) (r .code) (r .second) s′ []) (sym is)
+      (subst (λ (n : ℕ). Keeps (decided n s [] (course .effect)) (r .code) (r .second) s′ []) (only-first (judged (lent rules kinds rights) s h course (first-applies (course .refusals)))) k)
 
-    gone : take j (decode s .certificates) ++ drop (suc j) (decode s .certificates) ≡ without (sameCertificate c) (decode s .certificates)
-    gone =
-        ap (λ (n : ℕ). take n (decode s .certificates) ++ drop (suc n) (decode s .certificates)) at
-        ∙ sym (without-first (policyOf (lent rules kinds rights)) c [] (decode s .certificates) (sound-certificates (policyOf (lent rules kinds rights)) (decode s) (sound-decode (policyOf (lent rules kinds rights)) s (h .state))) (of-true (stands (decode s) c) it-stands))
+  -- ── the certificate c, found at j ──
 
-    fell-from : Fallen rules kinds (withoutCertificate (decode s) c) s′ lost
-    fell-from = subst (λ (l : List Certificate). Fallen rules kinds (withCertificates (decode s) l) s′ lost) gone fell
+  module _ (c : Certificate) (allowed : Bool) where
+    abbrev away : Course
+    away = takenOn (given (lent rules kinds rights) s []) c allowed
 
-    taken-second : lost ≡ settled (given (lent rules kinds rights) s []) (withoutCertificate (decode s) c) .second
-    unfolding settled
-    taken-second = omega (arith, fell-from .count, ap length (same-fall rules kinds rights (withoutCertificate (decode s) c)))
+    pub away-out : (r : Answer) → (r .code ≡ 3) × (r .second ≡ 0) → (i : ℕ) → getD (isUser (c .appointee) ∷ hasRow (policyOf (lent rules kinds rights)) (c .kind) ∷ isUser (c .appointer) ∷ []) i true ≡ false → Comes away s r s
+    away-out r z i o = refused-comes away s r 3 (omega arith) z (here (out-of-range (isUser (c .appointee) ∷ hasRow (policyOf (lent rules kinds rights)) (c .kind) ∷ isUser (c .appointer) ∷ []) i o))
 
-    taken-state : s′ ≡ encode (settled (given (lent rules kinds rights) s []) (withoutCertificate (decode s) c) .state)
-    unfolding settled
-    taken-state = fell-from .state ∙ ap (λ (rows : List Row). encode (withRows (withoutCertificate (decode s) c) rows)) (same-fall rules kinds rights (withoutCertificate (decode s) c))
+    module _ (in₁ : c .appointee < 4096) (in₂ : c .kind < length kinds / 7) (in₃ : c .appointer < 4096) (j : ℕ) (at : j ≡ firstPlace (sameCertificate c) (decode s .certificates)) where
+      range : T (not (not (every (isUser (c .appointee) ∷ hasRow (policyOf (lent rules kinds rights)) (c .kind) ∷ isUser (c .appointer) ∷ []))))
+      range = in-range (isUser (c .appointee) ∷ hasRow (policyOf (lent rules kinds rights)) (c .kind) ∷ isUser (c .appointer) ∷ []) (lt→ltb (c .appointee) 4096 in₁, (some-kind rules kinds rights (c .kind) in₂, (lt→ltb (c .appointer) 4096 in₃, tt)))
 
-  -- ── withdraw ──
+      pub away-none : (r : Answer) → (r .code ≡ 9) × (r .second ≡ 0) → certificateCount s ≤ j → Comes away s r s
+      away-none r z l = refused-comes away s r 9 (omega arith) z (later range (here (of-false (stands (decode s) c) (not-found (sameCertificate c) (decode s .certificates) (omega (arith, certificate-length s))))))
 
-  module _ (a k b : ℕ) where
-    withdraw-is : courseOf (lent rules kinds rights) s [] (withdraw a k b) ≡ judgedFirst (lent rules kinds rights) s (withdrawOn (given (lent rules kinds rights) s []) (record { appointee = a; kind = k; appointer = b }))
-    unfolding courseOf
-    withdraw-is = refl
+      module _ (exists : j < certificateCount s) where
+        it-stands : stands (decode s) c ≡ true
+        it-stands = found-any (sameCertificate c) (decode s .certificates) (omega (arith, certificate-length s))
 
-    pub withdraw-out : (r : Answer) → (r .code ≡ 3) × (r .second ≡ 0) → T (not (every (isUser a ∷ hasRow (policyOf (lent rules kinds rights)) k ∷ isUser b ∷ []))) → Answers (lent rules kinds rights) s (withdraw a k b) r s
-    unfolding withdrawOn
-    withdraw-out r z o = own-refuses (lent rules kinds rights) s [] h (withdraw a k b) _ withdraw-is r 3 (omega arith) z (here o)
+        pub away-forbidden : (r : Answer) → (r .code ≡ 10) × (r .second ≡ 0) → allowed ≡ false → Comes away s r s
+        away-forbidden r z e = refused-comes away s r 10 (omega arith) z (later range (later (found _ it-stands) (here (of-false allowed e))))
 
-    module _ (in₁ : a < 4096) (in₂ : k < length kinds / 7) (in₃ : b < 4096) (j : ℕ) (at : j ≡ firstPlace (sameCertificate (record { appointee = a; kind = k; appointer = b })) (decode s .certificates)) where
-      withdraw-range : T (not (not (every (isUser a ∷ hasRow (policyOf (lent rules kinds rights)) k ∷ isUser b ∷ []))))
-      withdraw-range = in-range (isUser a ∷ hasRow (policyOf (lent rules kinds rights)) k ∷ isUser b ∷ []) (lt→ltb a 4096 in₁, (some-kind rules kinds rights k in₂, (lt→ltb b 4096 in₃, tt)))
+        gone : take j (decode s .certificates) ++ drop (suc j) (decode s .certificates) ≡ without (sameCertificate c) (decode s .certificates)
+        gone =
+            ap (λ (n : ℕ). take n (decode s .certificates) ++ drop (suc n) (decode s .certificates)) at
+            ∙ sym (without-first (policyOf (lent rules kinds rights)) c [] (decode s .certificates) (sound-certificates (policyOf (lent rules kinds rights)) (decode s) (sound-decode (policyOf (lent rules kinds rights)) s (h .state))) (of-true (stands (decode s) c) it-stands))
 
-      pub withdraw-none : (r : Answer) → (r .code ≡ 9) × (r .second ≡ 0) → certificateCount s ≤ j → Answers (lent rules kinds rights) s (withdraw a k b) r s
-      unfolding withdrawOn
-      withdraw-none r z l =
-          own-refuses (lent rules kinds rights) s [] h (withdraw a k b) _ withdraw-is r 9 (omega arith) z
-          (later withdraw-range (here (of-false (stands (decode s) (record { appointee = a; kind = k; appointer = b })) (not-found (sameCertificate (record { appointee = a; kind = k; appointer = b })) (decode s .certificates) (omega (arith, certificate-length s))))))
+        -- it goes and the rows fall: the numbers are the effect's
+        pub away-done : (r : Answer) (s′ : List ℕ) → allowed ≡ true → r .code ≡ 0 → Fallen rules kinds (withCertificates (decode s) (take j (decode s .certificates) ++ drop (suc j) (decode s .certificates))) s′ (r .second) → Comes away s r s′
+        unfolding settled
+        away-done r s′ e z f =
+            let fell : Fallen rules kinds (withoutCertificate (decode s) c) s′ (r .second) = subst (λ (l : List Certificate). Fallen rules kinds (withCertificates (decode s) l) s′ (r .second)) gone f in
+            accepted-comes away s s′ r z (later range (later (found _ it-stands) (later (found allowed e) none)))
+            (omega (arith, fell .count, ap length (same-fall rules kinds rights (withoutCertificate (decode s) c))))
+            (fell .state ∙ ap (λ (rows : List Row). encode (withRows (withoutCertificate (decode s) c) rows)) (same-fall rules kinds rights (withoutCertificate (decode s) c))) refl
 
-      pub withdraw-done : (r : Answer) (s′ : List ℕ) → j < certificateCount s → r .code ≡ 0 → Fallen rules kinds (withCertificates (decode s) (take j (decode s .certificates) ++ drop (suc j) (decode s .certificates))) s′ (r .second) → Answers (lent rules kinds rights) s (withdraw a k b) r s′
-      unfolding withdrawOn settled
-      withdraw-done r s′ l z f =
-          own-accepts (lent rules kinds rights) s [] h (withdraw a k b) _ withdraw-is r s′ [] z
-          (later withdraw-range (later (found _ (it-stands (record { appointee = a; kind = k; appointer = b }) j at l s′ (r .second) f)) none))
-          (taken-second (record { appointee = a; kind = k; appointer = b }) j at l s′ (r .second) f) (taken-state (record { appointee = a; kind = k; appointer = b }) j at l s′ (r .second) f) refl
+  -- ── revoke and withdraw ──
 
-  -- ── revoke ──
+  module _ (a k b : ℕ) (r : Answer) (s′ : List ℕ) where
+    pub withdrawn : Comes (takenOn (given (lent rules kinds rights) s []) (record { appointee = a; kind = k; appointer = b }) true) s r s′ → Answers (lent rules kinds rights) s (withdraw a k b) r s′
+    unfolding courseOf withdrawOn
+    withdrawn = on-sound (withdraw a k b) _ refl r s′
 
-  module _ (caller a k b : ℕ) where
-    revoke-is : courseOf (lent rules kinds rights) s [] (revoke caller a k b) ≡ judgedFirst (lent rules kinds rights) s (revokeOn (given (lent rules kinds rights) s []) caller (record { appointee = a; kind = k; appointer = b }))
-    unfolding courseOf
-    revoke-is = refl
+    -- a caller in range is one test fewer
+    pub revoked : (caller : ℕ) (allowed : Bool) → caller < 4096 → allowed ≡ mayRevoke (decode s .rows) (kindNumbered (policyOf (without-rights [] kinds)) k) caller b → Comes (takenOn (given (lent rules kinds rights) s []) (record { appointee = a; kind = k; appointer = b }) allowed) s r s′
+        → Answers (lent rules kinds rights) s (revoke caller a k b) r s′
+    unfolding courseOf revokeOn policyOf
+    revoked caller allowed in₀ e x =
+        on-sound (revoke caller a k b) _ refl r s′
+        (subst (λ (n : ℕ). Keeps (decided n s [] (settled (given (lent rules kinds rights) s []) (withoutCertificate (decode s) (record { appointee = a; kind = k; appointer = b })))) (r .code) (r .second) s′ [])
+        (λ i. cond (not (sym (lt-ltb caller 4096 in₀) i && every (isUser a ∷ hasRow (policyOf (lent rules kinds rights)) k ∷ isUser b ∷ []))) 3 (cond (not (stands (decode s) (record { appointee = a; kind = k; appointer = b }))) 9 (cond (not (e i)) 10 0))) x)
 
-    pub revoke-out : (r : Answer) → (r .code ≡ 3) × (r .second ≡ 0) → T (not (every (isUser caller ∷ isUser a ∷ hasRow (policyOf (lent rules kinds rights)) k ∷ isUser b ∷ []))) → Answers (lent rules kinds rights) s (revoke caller a k b) r s
-    unfolding revokeOn
-    revoke-out r z o = own-refuses (lent rules kinds rights) s [] h (revoke caller a k b) _ revoke-is r 3 (omega arith) z (here o)
-
-    module _ (in₀ : caller < 4096) (in₁ : a < 4096) (in₂ : k < length kinds / 7) (in₃ : b < 4096) (j : ℕ) (at : j ≡ firstPlace (sameCertificate (record { appointee = a; kind = k; appointer = b })) (decode s .certificates)) where
-      revoke-range : T (not (not (every (isUser caller ∷ isUser a ∷ hasRow (policyOf (lent rules kinds rights)) k ∷ isUser b ∷ []))))
-      revoke-range = in-range (isUser caller ∷ isUser a ∷ hasRow (policyOf (lent rules kinds rights)) k ∷ isUser b ∷ []) (lt→ltb caller 4096 in₀, (lt→ltb a 4096 in₁, (some-kind rules kinds rights k in₂, (lt→ltb b 4096 in₃, tt))))
-
-      pub revoke-none : (r : Answer) → (r .code ≡ 9) × (r .second ≡ 0) → certificateCount s ≤ j → Answers (lent rules kinds rights) s (revoke caller a k b) r s
-      unfolding revokeOn
-      revoke-none r z l =
-          own-refuses (lent rules kinds rights) s [] h (revoke caller a k b) _ revoke-is r 9 (omega arith) z
-          (later revoke-range (here (of-false (stands (decode s) (record { appointee = a; kind = k; appointer = b })) (not-found (sameCertificate (record { appointee = a; kind = k; appointer = b })) (decode s .certificates) (omega (arith, certificate-length s))))))
-
-      module _ (l : j < certificateCount s) where
-        revoke-stands : stands (decode s) (record { appointee = a; kind = k; appointer = b }) ≡ true
-        revoke-stands = found-any (sameCertificate (record { appointee = a; kind = k; appointer = b })) (decode s .certificates) (omega (arith, certificate-length s))
-
-        pub revoke-forbidden : (r : Answer) → (r .code ≡ 10) × (r .second ≡ 0) → mayRevoke (decode s .rows) (kindNumbered (policyOf (without-rights [] kinds)) k) caller b ≡ false → Answers (lent rules kinds rights) s (revoke caller a k b) r s
-        unfolding revokeOn policyOf
-        revoke-forbidden r z e = own-refuses (lent rules kinds rights) s [] h (revoke caller a k b) _ revoke-is r 10 (omega arith) z (later revoke-range (later (found _ revoke-stands) (here (of-false _ e))))
-
-        pub revoke-done : (r : Answer) (s′ : List ℕ) → mayRevoke (decode s .rows) (kindNumbered (policyOf (without-rights [] kinds)) k) caller b ≡ true → r .code ≡ 0 → Fallen rules kinds (withCertificates (decode s) (take j (decode s .certificates) ++ drop (suc j) (decode s .certificates))) s′ (r .second) → Answers (lent rules kinds rights) s (revoke caller a k b) r s′
-        unfolding revokeOn settled policyOf
-        revoke-done r s′ e z f =
-            own-accepts (lent rules kinds rights) s [] h (revoke caller a k b) _ revoke-is r s′ [] z
-            (later revoke-range (later (found _ revoke-stands) (later (found _ e) none)))
-            (taken-second (record { appointee = a; kind = k; appointer = b }) j at l s′ (r .second) f) (taken-state (record { appointee = a; kind = k; appointer = b }) j at l s′ (r .second) f) refl
+  pub revoke-out : (caller a k b : ℕ) (r : Answer) → (r .code ≡ 3) × (r .second ≡ 0) → 4096 ≤ caller → Answers (lent rules kinds rights) s (revoke caller a k b) r s
+  unfolding courseOf revokeOn
+  revoke-out caller a k b r z l = own-refuses (lent rules kinds rights) s [] h (revoke caller a k b) _ refl r 3 (omega arith) z (here (out-of-range (isUser caller ∷ isUser a ∷ hasRow (policyOf (lent rules kinds rights)) k ∷ isUser b ∷ []) 0 (le-ltb caller 4096 l)))
 
   -- ── environment and logout ──
 
   module _ (f v : ℕ) where
-    environment-is : courseOf (lent rules kinds rights) s [] (environment f v) ≡ judgedFirst (lent rules kinds rights) s (environmentOn (given (lent rules kinds rights) s []) f v)
-    unfolding courseOf
-    environment-is = refl
-
     pub environment-out : (r : Answer) → (r .code ≡ 3) × (r .second ≡ 0) → T (not (every (ltb f facts ∷ isBit v ∷ []))) → Answers (lent rules kinds rights) s (environment f v) r s
-    unfolding environmentOn
-    environment-out r z o = own-refuses (lent rules kinds rights) s [] h (environment f v) _ environment-is r 3 (omega arith) z (here o)
+    unfolding courseOf environmentOn
+    environment-out r z o = own-refuses (lent rules kinds rights) s [] h (environment f v) _ refl r 3 (omega arith) z (here o)
 
     pub fact-set-fits : v ≤ 1 → Fits (withFact (decode s) f v)
     fact-set-fits l = fact-fits (decode s) f v (sound-decode (policyOf (lent rules kinds rights)) s (h .state) .fits) (le→leb v 1 l)
 
     pub environment-done : (r : Answer) (s′ : List ℕ) → f < 64 → v ≤ 1 → r .code ≡ 0 → Fallen rules kinds (withFact (decode s) f v) s′ (r .second) → Answers (lent rules kinds rights) s (environment f v) r s′
-    unfolding environmentOn settled
+    unfolding courseOf environmentOn settled
     environment-done r s′ a b z e =
-        own-accepts (lent rules kinds rights) s [] h (environment f v) _ environment-is r s′ [] z (later (in-range (ltb f facts ∷ isBit v ∷ []) (lt→ltb f 64 a, (le→leb v 1 b, tt))) none)
+        own-accepts (lent rules kinds rights) s [] h (environment f v) _ refl r s′ [] z (later (in-range (ltb f facts ∷ isBit v ∷ []) (lt→ltb f 64 a, (le→leb v 1 b, tt))) none)
         (omega (arith, e .count, ap length (same-fall rules kinds rights (withFact (decode s) f v))))
         (e .state ∙ ap (λ (rows : List Row). encode (withRows (withFact (decode s) f v) rows)) (same-fall rules kinds rights (withFact (decode s) f v))) refl
 
   module _ (u : ℕ) where
-    logout-is : courseOf (lent rules kinds rights) s [] (logout u) ≡ judgedFirst (lent rules kinds rights) s (logoutOn (given (lent rules kinds rights) s []) u)
-    unfolding courseOf
-    logout-is = refl
-
     pub logout-out : (r : Answer) → (r .code ≡ 3) × (r .second ≡ 0) → 4096 ≤ u → Answers (lent rules kinds rights) s (logout u) r s
-    unfolding logoutOn
-    logout-out r z l = own-refuses (lent rules kinds rights) s [] h (logout u) _ logout-is r 3 (omega arith) z (here (out-of-range (isUser u ∷ []) 0 (le-ltb u 4096 l)))
+    unfolding courseOf logoutOn
+    logout-out r z l = own-refuses (lent rules kinds rights) s [] h (logout u) _ refl r 3 (omega arith) z (here (out-of-range (isUser u ∷ []) 0 (le-ltb u 4096 l)))
 
     pub logout-done : (r : Answer) (s′ : List ℕ) → u < 4096 → r .code ≡ 0 → Left s s′ (without (ofUser u) (decode s .rows)) (r .second) → Answers (lent rules kinds rights) s (logout u) r s′
-    unfolding logoutOn
-    logout-done r s′ a z e = own-accepts (lent rules kinds rights) s [] h (logout u) _ logout-is r s′ [] z (later (in-range (isUser u ∷ []) (lt→ltb u 4096 a, tt)) none) (omega (arith, e .count)) (e .state) refl
+    unfolding courseOf logoutOn
+    logout-done r s′ a z e = own-accepts (lent rules kinds rights) s [] h (logout u) _ refl r s′ [] z (later (in-range (isUser u ∷ []) (lt→ltb u 4096 a, tt)) none) (omega (arith, e .count)) (e .state) refl

@@ -10,11 +10,13 @@ ghost use Rattle.model.specs.Layout.{decode, policyOf, certificateCount};
 ghost use Rattle.model.specs.Conditions.{kindNumbered};
 ghost use Rattle.model.specs.Sound.{wellFormed};
 ghost use Rattle.model.specs.Calls.{revoke as revokeCall, withdraw as withdrawCall, environment as environmentCall, logout as logoutCall, mayRevoke};
+ghost use Rattle.model.specs.Outcome.{given};
 ghost use Rattle.model.specs.Words.{Sound};
 ghost use Rattle.table.specs.Entries.{without-rights, Sized};
 ghost use Rattle.index.specs.Indexed.{InRange};
 ghost use Rattle.inner.specs.Lent.{lent, Answers};
 ghost use Rattle.taking.specs.Fallen.{Fallen};
+ghost use Rattle.taking.specs.Taken.{takenOn, Comes};
 use model::Answer;
 use model::CERTIFICATE_COUNT;
 use model::Certificate;
@@ -50,6 +52,39 @@ fn may_revoke(kinds: &[u16], state: &[u16], caller: u16, kind: u16, appointer: u
     false
 }
 
+// What revoke and withdraw share: the certificate goes, and what rested on it falls, unless it is named out of range, does not stand or
+// may not be taken.
+fn take_away(
+    rules: &[u16],
+    kinds: &[u16],
+    rights: &[u16],
+    state: &mut [u16],
+    certificate: Certificate,
+    allowed: bool,
+) -> Answer
+    requires { ⌜ Sound (lent (now rules) (now kinds) (now rights)) (now state) ⌝ }
+    ensures { λ r. ⌜ Comes (takenOn (given (lent (now (rules .entry)) (now (kinds .entry)) (now (rights .entry))) (now (state .entry)) []) certificate allowed) (now (state .entry)) r (now (state .exit)) ⌝ }
+{
+    if USERS <= certificate.appointee {
+        return inner::refused(3);
+    }
+    if kinds.len() / KIND_WIDTH <= table::wide(certificate.kind) {
+        return inner::refused(3);
+    }
+    if USERS <= certificate.appointer {
+        return inner::refused(3);
+    }
+    let j = inner::find_certificate(state, certificate);
+    if table::wide(state[CERTIFICATE_COUNT]) <= j {
+        return inner::refused(9);
+    }
+    if !allowed {
+        return inner::refused(10);
+    }
+    let second = take_certificate(rules, kinds, state, j);
+    Answer { code: 0, second }
+}
+
 pub fn revoke(
     rules: &[u16],
     kinds: &[u16],
@@ -66,31 +101,13 @@ pub fn revoke(
     if USERS <= caller {
         return inner::refused(3);
     }
-    if USERS <= appointee {
-        return inner::refused(3);
-    }
-    if kinds.len() / KIND_WIDTH <= table::wide(kind) {
-        return inner::refused(3);
-    }
-    if USERS <= appointer {
-        return inner::refused(3);
-    }
-    let j = inner::find_certificate(
-        state,
-        Certificate {
-            appointee,
-            kind,
-            appointer,
-        },
-    );
-    if table::wide(state[CERTIFICATE_COUNT]) <= j {
-        return inner::refused(9);
-    }
-    if !may_revoke(kinds, state, caller, kind, appointer) {
-        return inner::refused(10);
-    }
-    let second = take_certificate(rules, kinds, state, j);
-    Answer { code: 0, second }
+    let allowed = may_revoke(kinds, state, caller, kind, appointer);
+    let certificate = Certificate {
+        appointee,
+        kind,
+        appointer,
+    };
+    take_away(rules, kinds, rights, state, certificate, allowed)
 }
 
 pub fn withdraw(
@@ -105,28 +122,12 @@ pub fn withdraw(
     requires { ⌜ Sound (lent (now rules) (now kinds) (now rights)) (now state) ⌝ }
     ensures { λ r. ⌜ Answers (lent (now (rules .entry)) (now (kinds .entry)) (now (rights .entry))) (now (state .entry)) (withdrawCall appointee kind appointer) r (now (state .exit)) ⌝ }
 {
-    if USERS <= appointee {
-        return inner::refused(3);
-    }
-    if kinds.len() / KIND_WIDTH <= table::wide(kind) {
-        return inner::refused(3);
-    }
-    if USERS <= appointer {
-        return inner::refused(3);
-    }
-    let j = inner::find_certificate(
-        state,
-        Certificate {
-            appointee,
-            kind,
-            appointer,
-        },
-    );
-    if table::wide(state[CERTIFICATE_COUNT]) <= j {
-        return inner::refused(9);
-    }
-    let second = take_certificate(rules, kinds, state, j);
-    Answer { code: 0, second }
+    let certificate = Certificate {
+        appointee,
+        kind,
+        appointer,
+    };
+    take_away(rules, kinds, rights, state, certificate, true)
 }
 
 pub fn environment(

@@ -15,54 +15,45 @@ use borrow.Author.Needs.{needs}
 use Rattle.inner.proofs.appoint.Statement.{statement}
 use Rattle.inner.proofs.appoint.Tie as tie
 
--- src/lib.rt:126:9
 refused-requires : tie.Need-refused-requires
 refused-requires c κs = search needs
 
 returns : tie.Need-returns
 returns c = appoint-out (c .before .before .before .before .before .before .args .rules .now) (c .before .before .before .before .before .before .args .kinds .now) (c .before .before .before .before .before .before .args .rights .now) (c .before .before .before .before .before .before .args .state .now) (c .before .before .before .before .before .before .pre) (c .before .before .before .before .before .before .args .appointer) (c .before .before .before .before .before .before .args .appointee) (c .before .before .before .before .before .before .args .kind) (c .refused .result) (c .refused .ensures) (out-of-range (isUser (c .before .before .before .before .before .before .args .appointer) ∷ isUser (c .before .before .before .before .before .before .args .appointee) ∷ hasRow (policyOf (lent (c .before .before .before .before .before .before .args .rules .now) (c .before .before .before .before .before .before .args .kinds .now) (c .before .before .before .before .before .before .args .rights .now))) (c .before .before .before .before .before .before .args .kind) ∷ []) 0 (le-ltb (c .before .before .before .before .before .before .args .appointer) 4096 (c .before .if1 .taken)))
 
--- src/lib.rt:129:9
 refused-requires-2 : tie.Need-refused-requires-2
 refused-requires-2 c κs = search needs
 
 returns-2 : tie.Need-returns-2
 returns-2 c = appoint-out (c .before .before .before .before .before .before .before .args .rules .now) (c .before .before .before .before .before .before .before .args .kinds .now) (c .before .before .before .before .before .before .before .args .rights .now) (c .before .before .before .before .before .before .before .args .state .now) (c .before .before .before .before .before .before .before .pre) (c .before .before .before .before .before .before .before .args .appointer) (c .before .before .before .before .before .before .before .args .appointee) (c .before .before .before .before .before .before .before .args .kind) (c .refused2 .result) (c .refused2 .ensures) (out-of-range (isUser (c .before .before .before .before .before .before .before .args .appointer) ∷ isUser (c .before .before .before .before .before .before .before .args .appointee) ∷ hasRow (policyOf (lent (c .before .before .before .before .before .before .before .args .rules .now) (c .before .before .before .before .before .before .before .args .kinds .now) (c .before .before .before .before .before .before .before .args .rights .now))) (c .before .before .before .before .before .before .before .args .kind) ∷ []) 1 (le-ltb (c .before .before .before .before .before .before .before .args .appointee) 4096 (c .before .if2 .taken)))
 
--- src/lib.rt:131:36
 wide-requires : tie.Need-wide-requires
 wide-requires c κs = search needs
 
--- src/lib.rt:132:9
 refused-requires-3 : tie.Need-refused-requires-3
 refused-requires-3 c κs = search needs
 
 returns-3 : tie.Need-returns-3
 returns-3 c = appoint-out (c .before .before .before .before .before .before .before .before .before .args .rules .now) (c .before .before .before .before .before .before .before .before .before .args .kinds .now) (c .before .before .before .before .before .before .before .before .before .args .rights .now) (c .before .before .before .before .before .before .before .before .before .args .state .now) (c .before .before .before .before .before .before .before .before .before .pre) (c .before .before .before .before .before .before .before .before .before .args .appointer) (c .before .before .before .before .before .before .before .before .before .args .appointee) (c .before .before .before .before .before .before .before .before .before .args .kind) (c .refused3 .result) (c .refused3 .ensures) (out-of-range (isUser (c .before .before .before .before .before .before .before .before .before .args .appointer) ∷ isUser (c .before .before .before .before .before .before .before .before .before .args .appointee) ∷ hasRow (policyOf (lent (c .before .before .before .before .before .before .before .before .before .args .rules .now) (c .before .before .before .before .before .before .before .before .before .args .kinds .now) (c .before .before .before .before .before .before .before .before .before .args .rights .now))) (c .before .before .before .before .before .before .before .before .before .args .kind) ∷ []) 2 (no-kind (c .before .before .before .before .before .before .before .before .before .args .rules .now) (c .before .before .before .before .before .before .before .before .before .args .kinds .now) (c .before .before .before .before .before .before .before .before .before .args .rights .now) (c .before .before .before .before .before .before .before .before .before .args .kind) (omega (arith, c .before .before .wide .ensures, c .before .if3 .taken))))
 
--- src/lib.rt:134:43
 wide-requires-2 : tie.Need-wide-requires-2
 wide-requires-2 c κs = search needs
 
--- src/lib.rt:134:9
 kind-numbered-requires : tie.Need-kind-numbered-requires
 kind-numbered-requires c κs = search needs
 
 slice-read-wide : tie.Need-slice-read-wide
 slice-read-wide c = omega (arith, sound-sized _ (c .before .before .before .before .before .before .before .before .before .before .before .args .state .now) (c .before .before .before .before .before .before .before .before .before .before .before .pre) .size)
 
--- src/lib.rt:135:9
 wide-requires-3 : tie.Need-wide-requires-3
 wide-requires-3 c κs = search needs
 
 is-active-requires : tie.Need-is-active-requires
 is-active-requires c κs = (sound-sized _ (c .before .before .before .before .before .before .before .before .before .before .before .before .before .args .state .now) (c .before .before .before .before .before .before .before .before .before .before .before .before .before .pre) .size, omega (arith, c .before .wide3 .ensures, sound-sized _ (c .before .before .before .before .before .before .before .before .before .before .before .before .before .args .state .now) (c .before .before .before .before .before .before .before .before .before .before .before .before .before .pre) .rows))
 
--- src/lib.rt:137:9
 refused-requires-4 : tie.Need-refused-requires-4
 refused-requires-4 c κs = search needs
 
--- src/lib.rt:137:9
 same-length : tie.Need-same-length
 same-length c = search needs
 
@@ -72,29 +63,24 @@ returns-4 c = appoint-not-in-role (c .before .before .before .before .before .be
 slice-read-wide-2 : tie.Need-slice-read-wide-2
 slice-read-wide-2 c = omega (arith, sound-sized _ (c .before .before .before .before .before .before .before .before .before .before .before .before .before .before .before .before .args .state .now) (c .before .before .before .before .before .before .before .before .before .before .before .before .before .before .before .before .pre) .size)
 
--- src/lib.rt:144:9
 wide-requires-4 : tie.Need-wide-requires-4
 wide-requires-4 c κs = search needs
 
 find-certificate-requires : tie.Need-find-certificate-requires
 find-certificate-requires c κs = sound-sized _ (c .before .before .before .before .before .before .before .before .before .before .before .before .before .before .before .before .before .before .args .state .now) (c .before .before .before .before .before .before .before .before .before .before .before .before .before .before .before .before .before .before .pre)
 
--- src/lib.rt:146:9
 refused-requires-5 : tie.Need-refused-requires-5
 refused-requires-5 c κs = search needs
 
--- src/lib.rt:146:9
 same-length-2 : tie.Need-same-length-2
 same-length-2 c = search needs
 
 returns-5 : tie.Need-returns-5
 returns-5 c = appoint-stands (c .before .before .before .before .before .before .before .before .before .before .before .before .before .before .before .before .before .before .before .before .before .args .rules .now) (c .before .before .before .before .before .before .before .before .before .before .before .before .before .before .before .before .before .before .before .before .before .args .kinds .now) (c .before .before .before .before .before .before .before .before .before .before .before .before .before .before .before .before .before .before .before .before .before .args .rights .now) (c .before .before .before .before .before .before .before .before .before .before .before .before .before .before .before .before .before .before .before .before .before .args .state .now) (c .before .before .before .before .before .before .before .before .before .before .before .before .before .before .before .before .before .before .before .before .before .pre) (c .before .before .before .before .before .before .before .before .before .before .before .before .before .before .before .before .before .before .before .before .before .args .appointer) (c .before .before .before .before .before .before .before .before .before .before .before .before .before .before .before .before .before .before .before .before .before .args .appointee) (c .before .before .before .before .before .before .before .before .before .before .before .before .before .before .before .before .before .before .before .before .before .args .kind) (c .before .before .before .before .before .before .before .before .before .before .before .before .before .before .before .before .if1 .left) (c .before .before .before .before .before .before .before .before .before .before .before .before .before .before .before .if2 .left) (omega (arith, c .before .before .before .before .before .before .before .before .before .before .before .before .before .before .wide .ensures, c .before .before .before .before .before .before .before .before .before .before .before .before .before .if3 .left)) (ap (λ (x : Kind). active (decode (c .before .before .before .before .before .before .before .before .before .before .before .before .before .before .before .before .before .before .before .before .before .args .state .now) .rows) (c .before .before .before .before .before .before .before .before .before .before .before .before .before .before .before .before .before .before .before .before .before .args .appointer) (x .appointer)) (sym (c .before .before .before .before .before .before .before .before .before .before .before .kind-numbered .ensures ∙ ap (λ (n : ℕ). kindNumbered (policyOf (without-rights [] (c .before .before .before .before .before .before .before .before .before .before .before .before .before .before .before .before .before .before .before .before .before .args .kinds .now))) n) (c .before .before .before .before .before .before .before .before .before .before .before .before .wide2 .ensures))) ∙ sym (active-now (c .before .before .before .before .before .before .before .before .before .before .before .before .before .before .before .before .before .before .before .before .before .args .state .now) (c .before .before .before .before .before .before .before .before .before .wide3 .result) (c .before .before .before .before .before .before .before .before .before .before .before .before .before .before .before .before .before .before .before .before .before .args .appointer) (c .before .before .before .before .before .before .before .before .before .before .before .kind-numbered .result .appointer) (c .before .before .before .before .before .before .before .before .before .wide3 .ensures)) ∙ sym (c .before .before .before .before .before .before .before .is-active .ensures) ∙ not-false _ (c .before .before .before .before .before .before .if4 .left)) (c .before .before .find-certificate .result) (c .before .before .find-certificate .ensures) (c .refused5 .result) (c .refused5 .ensures) (omega (arith, c .before .before .before .before .wide4 .ensures))
 
--- src/lib.rt:149:9
 refused-requires-6 : tie.Need-refused-requires-6
 refused-requires-6 c κs = search needs
 
--- src/lib.rt:149:9
 same-length-3 : tie.Need-same-length-3
 same-length-3 c = search needs
 
@@ -104,11 +90,9 @@ returns-6 c = appoint-full (c .before .before .before .before .before .before .b
 append-certificate-requires : tie.Need-append-certificate-requires
 append-certificate-requires c κs = (sound-form _ (c .before .before .before .before .before .before .before .before .before .before .before .before .before .before .before .before .before .before .before .before .before .before .args .state .now) (c .before .before .before .before .before .before .before .before .before .before .before .before .before .before .before .before .before .before .before .before .before .before .pre), omega (arith, c .before .before .before .before .before .wide4 .ensures))
 
--- src/lib.rt:152:5
 refused-requires-7 : tie.Need-refused-requires-7
 refused-requires-7 c κs = search needs
 
--- src/lib.rt:121:1
 same-length-4 : tie.Need-same-length-4
 same-length-4 c = search needs
 

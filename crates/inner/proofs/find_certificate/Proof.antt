@@ -19,22 +19,18 @@ Inv-loop state certificate n i₀ i = (i ≤ n) × (any (sameCertificate certifi
 abbrev μ-loop : tie.MeasureT-loop
 μ-loop state certificate n i₀ i = n - i
 
--- src/lib.rt:78:25
 shared-slice-read-wide : tie.Need-shared-slice-read-wide Inv-loop μ-loop
 shared-slice-read-wide c = search needs
 
--- src/lib.rt:78:9
 wide-requires : tie.Need-wide-requires Inv-loop μ-loop
 wide-requires c κs = search needs
 
 loop-holds : tie.Need-loop-holds Inv-loop μ-loop
 loop-holds c = (search needs, refl)
 
--- src/lib.rt:81:42
 certificate-at-requires : tie.Need-certificate-at-requires Inv-loop μ-loop
 certificate-at-requires c κs = search needs
 
--- src/lib.rt:81:12
 same-certificate-requires : tie.Need-same-certificate-requires Inv-loop μ-loop
 same-certificate-requires c κs = search needs
 
@@ -42,11 +38,9 @@ returns : tie.Need-returns Inv-loop μ-loop
 unfolding decode certificateAt
 returns c = sym (first-hit certificateFrom 3 (sameCertificate (c .before .before .before .before .before .before .before .before .args .certificate)) (certificateNumbers (c .before .before .before .before .before .before .before .before .args .state .now)) (certificateCount (c .before .before .before .before .before .before .before .before .args .state .now)) (c .before .before .before .before .loop .i) (omega (arith, c .before .before .before .before .before .wide .ensures)) (c .before .before .before .before .loop .inv .1) (ap (sameCertificate (c .before .before .before .before .before .before .before .before .args .certificate)) (sym (c .before .before .certificate-at .ensures)) ∙ sym (c .before .same-certificate .ensures) ∙ c .if1 .taken))
 
--- src/lib.rt:84:9
 add-i : tie.Need-add-i Inv-loop μ-loop
 add-i c = search needs
 
--- src/lib.rt:80:5
 loop-less : tie.Need-loop-less Inv-loop μ-loop
 loop-less c = search needs
 

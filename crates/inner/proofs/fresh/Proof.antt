@@ -3,15 +3,12 @@ use borrow.Author.Needs.{needs}
 use Rattle.inner.proofs.fresh.Statement.{statement}
 use Rattle.inner.proofs.fresh.Tie as tie
 
--- src/lib.rt:80:5
 zero-requires : tie.Need-zero-requires
 zero-requires c κs = search needs
 
--- src/lib.rt:81:5
 refused-requires : tie.Need-refused-requires
 refused-requires c κs = search needs
 
--- src/lib.rt:76:1
 same-length : tie.Need-same-length
 same-length c = search needs
 

@@ -11,36 +11,30 @@ use borrow.Author.Needs.{needs}
 use Rattle.inner.proofs.lowest_rule.Statement.{statement}
 use Rattle.inner.proofs.lowest_rule.Tie as tie
 
--- src/lib.rt:70:30
 slice-aggregate-number-user : tie.Need-slice-aggregate-number-user
 slice-aggregate-number-user c = search needs
 
 number-user-requires : tie.Need-number-user-requires
 number-user-requires c κs = (c .before .before .before .before .pre .1, refl)
 
--- src/lib.rt:72:38
 slice-aggregate-enter-certificates : tie.Need-slice-aggregate-enter-certificates
 slice-aggregate-enter-certificates c = search needs
 
--- src/lib.rt:72:48
 slice-aggregate-enter-certificates-2 : tie.Need-slice-aggregate-enter-certificates-2
 slice-aggregate-enter-certificates-2 c = search needs
 
 enter-certificates-requires : tie.Need-enter-certificates-requires
 enter-certificates-requires c κs = (c .before .before .before .before .before .before .before .before .pre .0, indexed-user (c .before .before .before .before .before .before .before .before .args .user) _ (c .before .before .before .number-user .ensures))
 
--- src/lib.rt:73:30
 slice-aggregate-enter-rows : tie.Need-slice-aggregate-enter-rows
 slice-aggregate-enter-rows c = search needs
 
--- src/lib.rt:73:40
 slice-aggregate-enter-rows-2 : tie.Need-slice-aggregate-enter-rows-2
 slice-aggregate-enter-rows-2 c = search needs
 
 enter-rows-requires : tie.Need-enter-rows-requires
 enter-rows-requires c κs = (c .before .before .before .before .before .before .before .before .before .before .before .before .pre .0, c .before .before .before .enter-certificates .ensures)
 
--- src/lib.rt:74:40
 slice-aggregate-lowest-marked : tie.Need-slice-aggregate-lowest-marked
 slice-aggregate-lowest-marked c = search needs
 

@@ -5,7 +5,6 @@ use borrow.Author.Needs.{needs}
 use Rattle.taking.proofs.logout.Statement.{statement}
 use Rattle.taking.proofs.logout.Tie as tie
 
--- src/lib.rt:263:9
 refused-requires : tie.Need-refused-requires
 refused-requires c κs = search needs
 
@@ -15,7 +14,6 @@ returns c = logout-out (c .before .before .before .before .before .before .args 
 drop-user-requires : tie.Need-drop-user-requires
 drop-user-requires c κs = sound-form _ (c .before .before .before .before .before .before .args .state .now) (c .before .before .before .before .before .before .pre)
 
--- src/lib.rt:258:1
 same-length : tie.Need-same-length
 same-length c = search needs
 

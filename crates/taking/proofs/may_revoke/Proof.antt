@@ -12,22 +12,18 @@ use borrow.Author.Needs.{needs}
 use Rattle.taking.proofs.may_revoke.Statement.{statement}
 use Rattle.taking.proofs.may_revoke.Tie as tie
 
--- src/lib.rt:169:43
 wide-requires : tie.Need-wide-requires
 wide-requires c κs = search needs
 
--- src/lib.rt:169:9
 kind-numbered-requires : tie.Need-kind-numbered-requires
 kind-numbered-requires c κs = search needs
 
 returns : tie.Need-returns
 returns c = by-appointer (decode (c .before .before .before .before .before .args .state .now) .rows) (c .before .kind-numbered .result) (kindNumbered (policyOf (without-rights [] (c .before .before .before .before .before .args .kinds .now))) (c .before .before .before .before .before .args .kind)) (c .before .before .before .before .before .args .caller) (c .before .before .before .before .before .args .appointer) (c .before .kind-numbered .ensures ∙ ap (λ (n : ℕ). kindNumbered (policyOf (without-rights [] (c .before .before .before .before .before .args .kinds .now))) n) (c .before .before .wide .ensures)) (eq-eqb _ _ (c .if1 .taken))
 
--- src/lib.rt:175:29
 shared-slice-read-wide : tie.Need-shared-slice-read-wide
 shared-slice-read-wide c = search needs
 
--- src/lib.rt:175:13
 wide-requires-2 : tie.Need-wide-requires-2
 wide-requires-2 c κs = search needs
 

@@ -4,42 +4,33 @@ use borrow.Author.Needs.{needs}
 use Rattle.terminal.proofs.main.Statement.{statement}
 use Rattle.terminal.proofs.main.Tie as tie
 
--- src/main.rt:8:41
 slice-aggregate-read-full : tie.Need-slice-aggregate-read-full
 slice-aggregate-read-full c = search needs
 
--- src/main.rt:8:9
 read-full-requires : tie.Need-read-full-requires
 read-full-requires c κs = search needs
 
--- src/main.rt:9:34
 array-share-prefix-text : tie.Need-array-share-prefix-text
 array-share-prefix-text c = search needs
 
--- src/main.rt:9:34
 slice-aggregate-session : tie.Need-slice-aggregate-session
 slice-aggregate-session c = search needs
 
--- src/main.rt:9:46
 slice-aggregate-session-2 : tie.Need-slice-aggregate-session-2
 slice-aggregate-session-2 c = search needs
 
--- src/main.rt:9:9
 session-requires : tie.Need-session-requires
 session-requires c κs = search needs
 
--- src/main.rt:10:34
 array-share-prefix-out : tie.Need-array-share-prefix-out
 array-share-prefix-out c = search needs
 
 slice-aggregate-write-all : tie.Need-slice-aggregate-write-all
 slice-aggregate-write-all c = sym (length-take-le (c .before .before .session .result) (c .before .before .session .last .1 .0) (c .before .before .session .ensures .within))
 
--- src/main.rt:10:5
 write-all-requires : tie.Need-write-all-requires
 write-all-requires c κs = search needs
 
--- src/main.rt:5:1
 returns : tie.Need-returns
 returns c = search needs
 
