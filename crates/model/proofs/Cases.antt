@@ -1,5 +1,5 @@
 -- The ten cases that "At the edges" marks P, as one table under one statement, which holds by computation.
--- The wanted answers are worked out from the document.
+-- The wanted answers are worked out from the outline.
 use Prim.Native.Nat.{ℕ, zero, suc, _+_, _*_, _-_}
 use mathlib.Core.Path.{_≡_, refl}
 use mathlib.Core.Bool.{Bool, true, _&&_}
