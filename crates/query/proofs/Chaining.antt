@@ -1,7 +1,7 @@
 -- Chain: what code writes role by role is the model's walk. On sound tables no role is written twice, and the list has room.
 use Prim.Native.Nat.{ℕ, zero, suc, _+_, _-_, _≤_, _<_, min}
 use mathlib.Core.Path.{_≡_, refl, sym, ap, _∙_, subst, subst⁻¹}
-use mathlib.Core.Bool.{Bool, true, false, not, _&&_, _||_, cond, true≢false}
+use mathlib.Core.Bool.{Bool, true, false, not, _||_, cond, true≢false}
 use mathlib.Core.Logic.{_⊎_, inl, inr, _≢_}
 use mathlib.Core.List.{List, [], _∷_, _++_, append-nil, append-assoc, List·Memᴰ, List·Memᴰ·head, List·Memᴰ·cases-cons, List·Memᴰ·not-nil}
 use native.Mathlib.Omega.{arith}
@@ -10,23 +10,21 @@ use borrow.Author.Tests.{lt-ltb, le-ltb}
 use lib.ListN.{length, getD, take, drop, set, replicate, length-take, length-drop, length-replicate, getD-replicate, take-append-drop}
 use lib.Seq.{take-suc-set, getD-take, getD-drop, ext-getD}
 use native.Mathlib.Numerals.{add-one}
-use Rattle.model.specs.Lists.{allOverEarlier, among, those, joined, filledTo}
+use Rattle.model.specs.Lists.{among, those, joined, filledTo}
 use Rattle.model.specs.Records.{Tables, Policy, World, worldOf}
 use Rattle.model.specs.Layout.{policyOf, decode, rowCount}
 use Rattle.model.specs.Conditions.{isRow, active, restsOn}
-use Rattle.model.specs.Sound.{rowSound}
 use Rattle.model.specs.Chain.{written, someTwice}
 use Rattle.model.specs.Words.{Sound}
 use Rattle.model.specs.declared.Row.{Row}
-use Rattle.model.proofs.Tests.{lt-or-ge, is-true, of-true, is-false, refute, not-of, and-left, and-right, any-of, earlier-append}
+use Rattle.model.proofs.Tests.{is-true, is-false, not-of, any-of}
 use Rattle.model.proofs.Parts.{without-append}
-use Rattle.model.proofs.Numbers.{sound-decode}
-use Rattle.model.proofs.Kept.{sound-rows}
-use Rattle.model.proofs.Support.{isRow-user, isRow-role, rests-on-active, row-new, row-role, row-supported}
+use Rattle.model.proofs.Support.{isRow-user, isRow-role, rests-on-active, row-role, row-supported}
 use Rattle.table.specs.Entries.{rowAt, firstRows}
 use Rattle.fall.specs.Writes.{Zeroed}
 use Rattle.rests.specs.Newest.{newest}
-use Rattle.rests.proofs.Newest.{rows-more, newest-active, newest-some, newest-within}
+use Rattle.rests.proofs.Newest.{rows-more, row-for, newest-active, newest-within}
+use Rattle.query.proofs.Single.{sound-row, first-for, newest-stays}
 
 -- what is still to be written from a role on, at most so many roles; 256 stands for no role
 abbrev pub onward : Tables → List ℕ → ℕ → ℕ → ℕ → List ℕ
@@ -41,45 +39,6 @@ module _ (t : Tables) (s : List ℕ) (h : Sound t s) (u : ℕ) where
 
   abbrev world : World
   world = worldOf policy (decode s)
-
-  -- ── each row is sound over those before it ──
-
-  all-sound : T (allOverEarlier (rowSound world) [] (firstRows s (rowCount s)))
-  unfolding decode firstRows
-  all-sound = sound-rows policy (decode s) (sound-decode policy s (h .state))
-
-  sound-upto : (n : ℕ) → T (allOverEarlier (rowSound world) [] (firstRows s n)) → (k : ℕ) → k < n → T (rowSound world (firstRows s k) (rowAt s k))
-  sound-upto zero v k l = absurd (omega arith)
-  sound-upto (suc n) v k l = go (λ a m. sound-upto n a k m) (lt-or-ge k n)
-    where
-      split : T (allOverEarlier (rowSound world) [] (firstRows s n) && (rowSound world (firstRows s n) (rowAt s n) && true))
-      split = subst T (ap (allOverEarlier (rowSound world) []) (rows-more s n) ∙ earlier-append (rowSound world) [] (firstRows s n) (rowAt s n ∷ [])) v
-
-      go : (T (allOverEarlier (rowSound world) [] (firstRows s n)) → k < n → T (rowSound world (firstRows s k) (rowAt s k))) → (k < n) ⊎ (n ≤ k) → T (rowSound world (firstRows s k) (rowAt s k))
-      go f (inl m) = f (and-left (allOverEarlier (rowSound world) [] (firstRows s n)) (rowSound world (firstRows s n) (rowAt s n) && true) split) m
-      go f (inr m) =
-          let e : n ≡ k = omega arith in
-          subst (λ (j : ℕ). T (rowSound world (firstRows s j) (rowAt s j))) e
-          (and-left (rowSound world (firstRows s n) (rowAt s n)) true (and-right (allOverEarlier (rowSound world) [] (firstRows s n)) (rowSound world (firstRows s n) (rowAt s n) && true) split))
-
-  sound-row : (k : ℕ) → k < rowCount s → T (rowSound world (firstRows s k) (rowAt s k))
-  sound-row k l = sound-upto (rowCount s) all-sound k l
-
-  -- ── a role has one row ──
-
-  -- a row for the role is the first for it
-  first-for : (q k : ℕ) → k < rowCount s → isRow u q (rowAt s k) ≡ true → newest s u q k ≡ 0
-  first-for q k l e = go (lt-or-ge 0 (newest s u q k))
-    where
-      i : T (isRow u q (rowAt s k))
-      i = of-true (isRow u q (rowAt s k)) e
-
-      again : active (firstRows s k) u q ≡ true → T (active (firstRows s k) (rowAt s k .user) (rowAt s k .role))
-      again a = subst⁻¹ (λ (n : ℕ). T (active (firstRows s k) n (rowAt s k .role))) (isRow-user u q (rowAt s k) i) (subst⁻¹ (λ (n : ℕ). T (active (firstRows s k) u n)) (isRow-role u q (rowAt s k) i) (of-true (active (firstRows s k) u q) a))
-
-      go : (0 < newest s u q k) ⊎ (newest s u q k ≤ 0) → newest s u q k ≡ 0
-      go (inl m) = absurd (refute (active (firstRows s k) (rowAt s k .user) (rowAt s k .role)) (row-new world (firstRows s k) (rowAt s k) (sound-row k l)) (again (newest-some s u q k (λ z. omega arith))))
-      go (inr m) = omega arith
 
   -- the rows for the role, among the first n: none, or the newest alone
   those-none : (q n : ℕ) → newest s u q n ≡ 0 → those (isRow u q) (firstRows s n) ≡ []
@@ -105,22 +64,8 @@ module _ (t : Tables) (s : List ℕ) (h : Sound t s) (u : ℕ) where
       go : (b : Bool) → isRow u q (rowAt s n) ≡ b → p ≡ cond b (suc n) (newest s u q n) → (n ≤ rowCount s → p ≡ newest s u q n → p ≢ 0 → those (isRow u q) (firstRows s n) ≡ rowAt s (p - 1) ∷ []) → those (isRow u q) (firstRows s (suc n)) ≡ rowAt s (p - 1) ∷ []
       go true r w f =
           let at : n ≡ p - 1 = omega arith in
-          split ∙ (λ j. those-none q n (first-for q n (omega arith) r) j ++ cond (not (r j)) [] (rowAt s n ∷ [])) ∙ ap (λ (k : ℕ). rowAt s k ∷ []) at
+          split ∙ (λ j. those-none q n (first-for t s h u q n (omega arith) r) j ++ cond (not (r j)) [] (rowAt s n ∷ [])) ∙ ap (λ (k : ℕ). rowAt s k ∷ []) at
       go false r w f = split ∙ (λ j. f (omega arith) w z j ++ cond (not (r j)) [] (rowAt s n ∷ []))
-
-  -- a role with a row among the first k has no other row after them
-  newest-stays : (q k n : ℕ) → newest s u q k ≢ 0 → k ≤ n → n ≤ rowCount s → newest s u q n ≡ newest s u q k
-  unfolding newest
-  newest-stays q k zero z l m = let e : k ≡ 0 = omega arith in ap (newest s u q) (sym e)
-  newest-stays q k (suc n) z l m = go (λ a. newest-stays q k n z a (omega arith)) (lt-or-ge n k)
-    where
-      step : (b : Bool) → isRow u q (rowAt s n) ≡ b → newest s u q n ≡ newest s u q k → cond b (suc n) (newest s u q n) ≡ newest s u q k
-      step true r e = absurd (z (sym e ∙ first-for q n (omega arith) r))
-      step false r e = e
-
-      go : (k ≤ n → newest s u q n ≡ newest s u q k) → (n < k) ⊎ (k ≤ n) → newest s u q (suc n) ≡ newest s u q k
-      go f (inl a) = let e : k ≡ suc n = omega arith in ap (newest s u q) (sym e)
-      go f (inr a) = step (isRow u q (rowAt s n)) refl (f a)
 
   -- ── one step of the walk ──
 
@@ -130,29 +75,19 @@ module _ (t : Tables) (s : List ℕ) (h : Sound t s) (u : ℕ) where
 
   one-row : (q k : ℕ) → newest s u q k ≢ 0 → k ≤ rowCount s → those (isRow u q) rows ≡ rowFor q k ∷ []
   unfolding decode firstRows
-  one-row q k z l = those-one q (rowCount s) (newest s u q (rowCount s)) (omega arith) refl (λ e. z (sym (newest-stays q k (rowCount s) z l (omega arith)) ∙ e)) ∙ ap (λ (n : ℕ). rowAt s (n - 1) ∷ []) (newest-stays q k (rowCount s) z l (omega arith))
-
-  -- the row is the user's, for the role
-  row-for : (q k : ℕ) → newest s u q k ≢ 0 → T (isRow u q (rowFor q k))
-  unfolding newest
-  row-for q zero z = absurd (z refl)
-  row-for q (suc k) z = go (isRow u q (rowAt s k)) refl z (row-for q k)
-    where
-      go : (b : Bool) → isRow u q (rowAt s k) ≡ b → cond b (suc k) (newest s u q k) ≢ 0 → (newest s u q k ≢ 0 → T (isRow u q (rowFor q k))) → T (isRow u q (rowAt s (cond b (suc k) (newest s u q k) - 1)))
-      go true r w f = let at : k ≡ suc k - 1 = omega arith in subst (λ (n : ℕ). T (isRow u q (rowAt s n))) at (of-true (isRow u q (rowAt s k)) r)
-      go false r w f = f w
+  one-row q k z l = those-one q (rowCount s) (newest s u q (rowCount s)) (omega arith) refl (λ e. z (sym (newest-stays t s h u q k (rowCount s) z l (omega arith)) ∙ e)) ∙ ap (λ (n : ℕ). rowAt s (n - 1) ∷ []) (newest-stays t s h u q k (rowCount s) z l (omega arith))
 
   -- what it rests on stands in rows before it, and is a role
   pub rests-before : (q k z : ℕ) → newest s u q k ≢ 0 → k ≤ rowCount s → List·Memᴰ z (restsOn policy (rowFor q k)) → newest s u z (newest s u q k - 1) ≢ 0
   rests-before q k z n l m e =
       true≢false
       (sym (is-true (active (firstRows s (newest s u q k - 1)) u z)
-      (subst (λ (w : ℕ). T (active (firstRows s (newest s u q k - 1)) w z)) (isRow-user u q (rowFor q k) (row-for q k n))
-      (rests-on-active world (firstRows s (newest s u q k - 1)) (rowFor q k) (row-supported world (firstRows s (newest s u q k - 1)) (rowFor q k) (sound-row (newest s u q k - 1) (omega (arith, newest-within s u q k, n)))) z m)))
+      (subst (λ (w : ℕ). T (active (firstRows s (newest s u q k - 1)) w z)) (isRow-user u q (rowFor q k) (row-for s u q k n))
+      (rests-on-active world (firstRows s (newest s u q k - 1)) (rowFor q k) (row-supported world (firstRows s (newest s u q k - 1)) (rowFor q k) (sound-row t s h (newest s u q k - 1) (omega (arith, newest-within s u q k, n)))) z m)))
       ∙ newest-active s u z (newest s u q k - 1) e)
 
   pub is-role : (q k : ℕ) → newest s u q k ≢ 0 → k ≤ rowCount s → q < 256
-  is-role q k z l = subst (λ (w : ℕ). w < 256) (isRow-role u q (rowFor q k) (row-for q k z)) (ltb→lt (rowFor q k .role) 256 (row-role world (firstRows s (newest s u q k - 1)) (rowFor q k) (sound-row (newest s u q k - 1) (omega (arith, newest-within s u q k, z)))))
+  is-role q k z l = subst (λ (w : ℕ). w < 256) (isRow-role u q (rowFor q k) (row-for s u q k z)) (ltb→lt (rowFor q k .role) 256 (row-role world (firstRows s (newest s u q k - 1)) (rowFor q k) (sound-row t s h (newest s u q k - 1) (omega (arith, newest-within s u q k, z)))))
 
   -- a role is written, and then what its row rests on first
   pub written-step : (most q k : ℕ) → newest s u q k ≢ 0 → k ≤ rowCount s → written policy rows u (suc most) q ≡ q ∷ onward t s u most (getD (restsOn policy (rowFor q k)) 0 256)
@@ -194,7 +129,7 @@ module _ (t : Tables) (s : List ℕ) (h : Sound t s) (u : ℕ) where
       go f (inr v) n =
           let some : (lower : ℕ) × List·Memᴰ lower (restsOn policy (rowFor q k)) × List·Memᴰ w (written policy rows u most lower) = from-some most w (restsOn policy (rowFor q k)) v in
           let before : newest s u w (newest s u q k - 1) ≢ 0 = f (some .0) (rests-before q k (some .0) z l (some .1)) (some .2) in
-          before (sym (newest-stays w (newest s u q k - 1) k before (omega (arith, newest-within s u q k)) l) ∙ n)
+          before (sym (newest-stays t s h u w (newest s u q k - 1) k before (omega (arith, newest-within s u q k)) l) ∙ n)
 
   -- the role is not among those written after it: they have rows before its own
   not-after : (most q k : ℕ) → newest s u q k ≢ 0 → k ≤ rowCount s → among (onward t s u most (getD (restsOn policy (rowFor q k)) 0 256)) q ≡ false
@@ -205,7 +140,7 @@ module _ (t : Tables) (s : List ℕ) (h : Sound t s) (u : ℕ) where
           let found : (w : ℕ) × List·Memᴰ w (onward t s u most (getD (restsOn policy (rowFor q k)) 0 256)) × T (eqb q w) = any-of (eqb q) (onward t s u most (getD (restsOn policy (rowFor q k)) 0 256)) a in
           let some : (lower : ℕ) × List·Memᴰ lower (restsOn policy (rowFor q k)) × List·Memᴰ (found .0) (written policy rows u most lower) = from-some most (found .0) (restsOn policy (rowFor q k)) (found .1) in
           written-within most (some .0) (newest s u q k - 1) (rests-before q k (some .0) z l (some .1)) (omega (arith, newest-within s u q k)) (found .0) (some .2)
-          (ap (λ (x : ℕ). newest s u x (newest s u q k - 1)) (sym (eqb→eq q (found .0) (found .2))) ∙ first-for q (newest s u q k - 1) (omega (arith, newest-within s u q k, z)) (is-true (isRow u q (rowFor q k)) (row-for q k z)))
+          (ap (λ (x : ℕ). newest s u x (newest s u q k - 1)) (sym (eqb→eq q (found .0) (found .2))) ∙ first-for t s h u q (newest s u q k - 1) (omega (arith, newest-within s u q k, z)) (is-true (isRow u q (rowFor q k)) (row-for s u q k z)))
 
   pub never-twice : (most q k : ℕ) → newest s u q k ≢ 0 → k ≤ rowCount s → someTwice (written policy rows u most q) ≡ false
   never-twice zero q k z l = refl

@@ -3,3 +3,4 @@ pub mod Reaching
 pub mod Telling
 pub mod Chaining
 pub mod Listing
+pub mod Single

@@ -1,28 +1,33 @@
--- Effective: what code asks row by row is the model's, and a marked row need not be asked again.
+-- Effective: what code asks row by row is the model's, and a row that does not carry the privilege need not be asked again.
 use Prim.Native.Nat.{ℕ, zero, suc, _+_, _-_, _≤_, _<_}
-use mathlib.Core.Path.{_≡_, refl, sym, ap, _∙_, subst}
+use mathlib.Core.Path.{_≡_, refl, sym, ap, _∙_, subst, subst⁻¹}
 use mathlib.Core.Bool.{Bool, true, false, _||_, cond}
-use mathlib.Core.Logic.{_≢_}
+use mathlib.Core.Logic.{_⊎_, inl, inr, _≢_}
 use mathlib.Core.List.{List, [], _∷_, reverse, List·Memᴰ}
 use native.Mathlib.Omega.{arith}
 use native.Mathlib.Numerals.{add-one}
-use native.Mathlib.Decide.{decLt}
-use lib.ListN.{length, getD, take, set, replicate}
-use lib.Seq.{getD-set-other, take-suc, getD-take}
+use lib.Dec.{eqb}
+use borrow.Author.Tests.{eqb-true, eqb-false}
+use lib.ListN.{length, getD, take, set, length-set, List·getD-eq-default}
+use lib.Seq.{getD-set-same, getD-set-other, take-suc, getD-take}
 use Rattle.model.specs.Lists.{any, joined}
 use Rattle.model.specs.Records.{Tables}
-use Rattle.model.specs.Layout.{policyOf}
+use Rattle.model.specs.Layout.{policyOf, rowCount}
 use Rattle.model.specs.Conditions.{role, meant, isRow, membership, ruleNumbered, rolesAsked, restsOn}
 use Rattle.model.specs.declared.Row.{Row}
-use Rattle.model.proofs.Tests.{or-later, is-true, of-true, any-append, of-any, at-place}
+use Rattle.model.specs.Words.{Sound}
+use Rattle.model.proofs.Tests.{lt-or-ge, or-later, is-true, of-true, any-append, of-any, at-place}
 use Rattle.model.proofs.Support.{isRow-role}
 use Rattle.model.proofs.Carried.{reverse-last}
 use Rattle.table.specs.Entries.{rowAt, firstRows, without-rights}
-use Rattle.rests.specs.Newest.{newest}
-use Rattle.rests.proofs.Newest.{rows-more}
+use Rattle.rests.specs.Newest.{newest, Placed, placeIn}
+use Rattle.rests.proofs.Newest.{rows-more, newest-within, newest-keeps, row-for}
+use Rattle.rests.proofs.Placing.{place-there, place-of}
 use Rattle.rests.proofs.Asking.{roles-same}
 use Rattle.direct.specs.Having.{hasRight}
-use Rattle.query.specs.Reached.{carried, reachedIn, conditionReaches, rowReaches, Clean}
+use Rattle.inner.proofs.Codes.{sound-sized}
+use Rattle.query.specs.Reached.{carried, reachedIn, conditionReaches, rowReaches, Standing, Asking}
+use Rattle.query.proofs.Single.{newest-stays}
 
 -- ── the first elements of a list, searched one by one ──
 
@@ -82,28 +87,76 @@ module _ (t : Tables) (having : List Bool) (s : List ℕ) (u : ℕ) where
   row-conditions k =
       ap (λ (b : Bool). hasRight having (rowAt s k .role) || b) (any-joined (reachedIn t having s u k) (λ (c : ℕ). rolesAsked (policyOf t) (meant c)) (membership (ruleNumbered (policyOf t) (rowAt s k .rule))))
 
-  -- one more row that does not carry the privilege is marked
-  pub clean-set : (seen : List ℕ) (k : ℕ) → Clean t having s u seen → rowReaches t having s u k ≡ false → Clean t having s u (set seen k 1)
-  unfolding Clean
-  clean-set seen k h e j m = go (decLt j k) (decLt k j)
+  -- ── what the table of places says ──
+
+  -- a role of which no place is read is not carried
+  pub place-none : (places : List ℕ) (k q p : ℕ) → Asking t having s u places → k ≤ rowCount s → p ≡ placeIn places k q → p ≡ 0 → reachedIn t having s u k q ≡ false
+  place-none places k q p a l e z = go (lt-or-ge 0 (newest s u q k))
     where
-      other : ((j ≡ k) → ⊥) → rowReaches t having s u j ≡ false
-      other n = h j (sym (getD-set-other seen k j 1 0 n) ∙ m)
+      stands : newest s u q k ≢ 0 → (getD places q 0 ≡ newest s u q (rowCount s)) ⊎ ((getD places q 0 ≡ 0) × (reachedIn t having s u (rowCount s) q ≡ false)) → reachedIn t having s u k q ≡ false
+      stands n (inl f) =
+          let at : getD places q 0 ≡ newest s u q k = f ∙ a .once q k l n in
+          absurd (n (sym at ∙ there (lt-or-ge q 256) (omega (arith, at, newest-within s u q k))))
+        where
+          there : (q < 256) ⊎ (256 ≤ q) → getD places q 0 ≤ k → getD places q 0 ≡ 0
+          there (inl m) w = place-there places k q q (getD places q 0) refl refl m w ∙ sym e ∙ z
+          there (inr m) w = List·getD-eq-default places 0 {n = q} (omega (arith, a .size))
+      stands n (inr f) =
+          reached-at k q (newest s u q k) refl n
+          ∙ sym (reached-at (rowCount s) q (newest s u q k) (sym (a .once q k l n)) n)
+          ∙ f .1
 
-      go : Dec (j < k) → Dec (k < j) → rowReaches t having s u j ≡ false
-      go (yes l) d = other (λ w. omega arith)
-      go (no g) (yes l) = other (λ w. omega arith)
-      go (no g) (no g2) = ap (rowReaches t having s u) (omega (arith, g, g2)) ∙ e
+      go : (0 < newest s u q k) ⊎ (newest s u q k ≤ 0) → reachedIn t having s u k q ≡ false
+      go (inl m) = stands (λ w. omega arith) (a .left q)
+      go (inr m) = reached-none k q (omega arith)
 
-zero-at : (n k : ℕ) → _≡_ {A = ℕ} (getD (replicate n 0) k 0) 0
-zero-at zero k = refl
-zero-at (suc n) zero = refl
-zero-at (suc n) (suc k) = zero-at n k
+  -- a place that is read is that of the role's row
+  pub record Found (k q p : ℕ) : Type 0 where
+    pub before : p ≤ k
+    pub standing : Standing s u (p - 1)
+    pub reached : reachedIn t having s u k q ≡ rowReaches t having s u (p - 1)
 
--- a scratch of zeros marks nothing
-pub clean-zeros : (t : Tables) (having : List Bool) (s : List ℕ) (u n : ℕ) → Clean t having s u (replicate n 0)
-unfolding Clean
-clean-zeros t having s u n k m = absurd (omega (arith, zero-at n k))
+  pub place-some : (places : List ℕ) (k q p : ℕ) → Asking t having s u places → k ≤ rowCount s → p ≡ placeIn places k q → p ≢ 0 → Found k q p
+  place-some places k q p a l e z = go (place-of places k q p e z) (a .left q)
+    where
+      go : (q < 256) × (p ≡ getD places q 0) × (p ≤ k) → (getD places q 0 ≡ newest s u q (rowCount s)) ⊎ ((getD places q 0 ≡ 0) × (reachedIn t having s u (rowCount s) q ≡ false)) → Found k q p
+      go f (inr n) = absurd (z (f .1 ∙ n .0))
+      go f (inl n) =
+          let at : p ≡ newest s u q (rowCount s) = f .1 ∙ n in
+          let role : rowAt s (p - 1) .role ≡ q = ap (λ (m : ℕ). rowAt s (m - 1) .role) at ∙ isRow-role u q (rowAt s (newest s u q (rowCount s) - 1)) (row-for s u q (rowCount s) (λ w. z (at ∙ w))) in
+          let one : p ≡ p - 1 + 1 = omega (arith, z) in
+          record {
+            before = f .2;
+            standing = record { within = omega (arith, f .2, z); fits = subst⁻¹ (λ (w : ℕ). w < 256) role (f .0); newest-is = ap (λ (w : ℕ). newest s u w (rowCount s)) role ∙ sym at ∙ one };
+            reached = reached-at k q p (at ∙ sym (newest-keeps s u q k (rowCount s) l (omega (arith, at, f .2)))) z;
+          }
+
+  -- the table has an entry for the row's role
+  pub entry-there : (places : List ℕ) (k w : ℕ) → Asking t having s u places → Standing s u k → w ≡ rowAt s k .role → w < length places
+  entry-there places k w a c e = omega (arith, e, c .fits, a .size)
+
+  -- a row that does not carry the privilege is not asked again
+  pub asking-less : (places : List ℕ) (k w : ℕ) → Asking t having s u places → Standing s u k → rowReaches t having s u k ≡ false → w ≡ rowAt s k .role → Asking t having s u (set places w 0)
+  asking-less places k w a c e r = record { sized = a .sized; once = a .once; size = simp length-set (a .size); left = left }
+    where
+      left : (q : ℕ) → (getD (set places w 0) q 0 ≡ newest s u q (rowCount s)) ⊎ ((getD (set places w 0) q 0 ≡ 0) × (reachedIn t having s u (rowCount s) q ≡ false))
+      left q = go (eqb w q) refl
+        where
+          other : (q ≡ w → ⊥) → (getD places q 0 ≡ newest s u q (rowCount s)) ⊎ ((getD places q 0 ≡ 0) × (reachedIn t having s u (rowCount s) q ≡ false)) → (getD (set places w 0) q 0 ≡ newest s u q (rowCount s)) ⊎ ((getD (set places w 0) q 0 ≡ 0) × (reachedIn t having s u (rowCount s) q ≡ false))
+          other n (inl f) = inl (getD-set-other places w q 0 0 n ∙ f)
+          other n (inr f) = inr (getD-set-other places w q 0 0 n ∙ f .0, f .1)
+
+          go : (b : Bool) → eqb w q ≡ b → (getD (set places w 0) q 0 ≡ newest s u q (rowCount s)) ⊎ ((getD (set places w 0) q 0 ≡ 0) × (reachedIn t having s u (rowCount s) q ≡ false))
+          go true z =
+              let at : w ≡ q = eqb-true w q z in
+              let here : k + 1 ≡ newest s u q (rowCount s) = sym (c .newest-is) ∙ ap (λ (x : ℕ). newest s u x (rowCount s)) (sym r ∙ at) in
+              let back : k + 1 - 1 ≡ k = omega arith in
+              inr (ap (λ (x : ℕ). getD (set places w 0) x 0) (sym at) ∙ getD-set-same places w 0 0 (entry-there places k w a c r), reached-at (rowCount s) q (k + 1) here (λ x. omega arith) ∙ ap (rowReaches t having s u) back ∙ e)
+          go false z = other (λ x. eqb-false w q z (sym x)) (a .left q)
+
+-- on sound tables, with every role in its place
+pub asking-begins : (t full : Tables) (having : List Bool) (s : List ℕ) (u : ℕ) (places : List ℕ) → Sound full s → Placed s u places → Asking t having s u places
+asking-begins t full having s u places h p = record { sized = sound-sized full s h; once = λ q k l z. newest-stays full s h u q k (rowCount s) z l (omega arith); size = p .size; left = λ q. inl (p .each q) }
 
 -- ── what code finds, as the row's and the condition's answer ──
 
@@ -137,11 +190,10 @@ module _ (rules kinds : List ℕ) (having : List Bool) (s : List ℕ) (u : ℕ) 
   unfolding policyOf
   asked-here n c roles e = e ∙ roles-same (policyOf (without-rights [] kinds)) (policyOf tables) refl (meant c)
 
-  pub condition-hit : (k n c j p : ℕ) (roles : List ℕ) → take n roles ≡ rolesAsked (policyOf (without-rights [] kinds)) (meant c) → length roles ≡ 4 → n ≤ 4 → j < n → p ≡ newest s u (getD roles j 0) k → p ≢ 0
-      → true ≡ rowReaches tables having s u (p - 1) → true ≡ conditionReaches tables having s u k c
+  pub condition-hit : (k n c j : ℕ) (roles : List ℕ) → take n roles ≡ rolesAsked (policyOf (without-rights [] kinds)) (meant c) → length roles ≡ 4 → n ≤ 4 → j < n → reachedIn tables having s u k (getD roles j 0) ≡ true → true ≡ conditionReaches tables having s u k c
   unfolding conditionReaches
-  condition-hit k n c j p roles e size few h f z r =
-      sym (ap (any (reachedIn tables having s u k)) (sym (asked-here n c roles e)) ∙ any-take-hit (reachedIn tables having s u k) roles 0 n j h (omega arith) (reached-at tables having s u k (getD roles j 0) p f z ∙ sym r))
+  condition-hit k n c j roles e size few h r =
+      sym (ap (any (reachedIn tables having s u k)) (sym (asked-here n c roles e)) ∙ any-take-hit (reachedIn tables having s u k) roles 0 n j h (omega arith) r)
 
   pub condition-none : (k n c j : ℕ) (roles : List ℕ) → take n roles ≡ rolesAsked (policyOf (without-rights [] kinds)) (meant c) → j ≤ n → n ≤ j → any (reachedIn tables having s u k) (take j roles) ≡ false → false ≡ conditionReaches tables having s u k c
   unfolding conditionReaches

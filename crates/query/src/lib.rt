@@ -2,13 +2,12 @@
 ghost use mathlib.Core.Path.{_≡_};
 ghost use mathlib.Core.Bool.{cond};
 ghost use Prim.Native.Nat.{_<_};
-ghost use lib.ListN.{length};
-ghost use Rattle.model.specs.Limits.{stateSize, mostRows};
+ghost use Rattle.model.specs.Layout.{rowCount};
 ghost use Rattle.model.specs.Calls.{invoke as invokeCall, effective as effectiveCall, chain as chainCall};
 ghost use Rattle.model.specs.Words.{Sound};
 ghost use Rattle.table.specs.Entries.{without-rights};
 ghost use Rattle.inner.specs.Lent.{lent, Answers, AnswersWith};
-ghost use Rattle.query.specs.Reached.{conditionReaches, rowReaches, Clean};
+ghost use Rattle.query.specs.Reached.{conditionReaches, rowReaches, Standing, Asking};
 use model::Answer;
 use model::PRIVILEGES;
 use model::ROLES;
@@ -47,23 +46,21 @@ pub fn invoke(
     told(direct::may_invoke(rights, state, user, privilege))
 }
 
-// Row k carries the privilege. Rows found not to carry it are marked and not asked again: a rule may name one role eight times.
+// Row k carries the privilege. The role of a row that is found not to carry it is taken out of the places, so that the row is not
+// asked again: a rule may name one role eight times.
 fn row_reaches(
     rules: &[u16],
     kinds: &[u16],
     having: &[bool; 256],
     state: &[u16],
-    seen: &mut [u16],
+    places: &mut [u16],
     k: usize,
     user: u16,
 ) -> bool
-    requires { ⌜ (length (now state) ≡ stateSize) × (k < mostRows) × (length (now seen) ≡ mostRows) × Clean (without-rights (now rules) (now kinds)) (now having) (now state) user (now seen) ⌝ }
+    requires { ⌜ Standing (now state) user k × Asking (without-rights (now rules) (now kinds)) (now having) (now state) user (now places) ⌝ }
     ensures answer { λ r. ⌜ r ≡ rowReaches (without-rights (now (rules .entry)) (now (kinds .entry))) (now (having .entry)) (now (state .entry)) user k ⌝ }
-    ensures clean { λ r. ⌜ Clean (without-rights (now (rules .entry)) (now (kinds .entry))) (now (having .entry)) (now (state .entry)) user (now (seen .exit)) ⌝ }
+    ensures asking { λ r. ⌜ Asking (without-rights (now (rules .entry)) (now (kinds .entry))) (now (having .entry)) (now (state .entry)) user (now (places .exit)) ⌝ }
 {
-    if seen[k] == 1 {
-        return false;
-    }
     let row = table::row_at(state, k);
     if direct::has_right(having, row.role) {
         return true;
@@ -75,11 +72,11 @@ fn row_reaches(
     while i < m {
         let condition = conditions[i];
         i += 1;
-        if condition_reaches(rules, kinds, having, state, seen, k, user, condition) {
+        if condition_reaches(rules, kinds, having, state, places, k, user, condition) {
             return true;
         }
     }
-    seen[k] = 1;
+    places[table::wide(row.role)] = 0;
     false
 }
 
@@ -89,26 +86,26 @@ fn condition_reaches(
     kinds: &[u16],
     having: &[bool; 256],
     state: &[u16],
-    seen: &mut [u16],
+    places: &mut [u16],
     k: usize,
     user: u16,
     condition: u16,
 ) -> bool
-    requires { ⌜ (length (now state) ≡ stateSize) × (k < mostRows) × (length (now seen) ≡ mostRows) × Clean (without-rights (now rules) (now kinds)) (now having) (now state) user (now seen) ⌝ }
+    requires { ⌜ (k < rowCount (now state)) × Asking (without-rights (now rules) (now kinds)) (now having) (now state) user (now places) ⌝ }
     ensures answer { λ r. ⌜ r ≡ conditionReaches (without-rights (now (rules .entry)) (now (kinds .entry))) (now (having .entry)) (now (state .entry)) user k condition ⌝ }
-    ensures clean { λ r. ⌜ Clean (without-rights (now (rules .entry)) (now (kinds .entry))) (now (having .entry)) (now (state .entry)) user (now (seen .exit)) ⌝ }
+    ensures asking { λ r. ⌜ Asking (without-rights (now (rules .entry)) (now (kinds .entry))) (now (having .entry)) (now (state .entry)) user (now (places .exit)) ⌝ }
 {
     let asked = rests::roles_asked(kinds, condition);
     let roles = asked.roles;
     let n = asked.count;
     let mut j: usize = 0;
     while j < n {
-        let p = rests::newest_row(state, k, user, roles[j]);
+        let p = rests::place_in(places, k, roles[j]);
         j += 1;
         if p == 0 {
             continue;
         }
-        if row_reaches(rules, kinds, having, state, seen, p - 1, user) {
+        if row_reaches(rules, kinds, having, state, places, p - 1, user) {
             return true;
         }
     }
@@ -136,13 +133,13 @@ pub fn effective(
     if PRIVILEGES <= privilege {
         return inner::refused(3);
     }
-    let p = rests::newest_row(state, table::wide(state[ROW_COUNT]), user, role);
+    let mut places = rests::places_of(state, user);
+    let p = rests::place_in(&places, table::wide(state[ROW_COUNT]), role);
     if p == 0 {
         return inner::refused(12);
     }
     let having = direct::roles_having(rights, privilege);
-    let mut seen = [0u16; 256];
-    told(row_reaches(rules, kinds, &having, state, &mut seen, p - 1, user))
+    told(row_reaches(rules, kinds, &having, state, &mut places, p - 1, user))
 }
 
 // A row rests on earlier rows, so no role is written twice and the list has room for all.

@@ -1,15 +1,16 @@
 -- The newest row of a role: what code finds from the last row down is the newest, and the role is active exactly if there is one.
 use Prim.Native.Nat.{ℕ, zero, suc, _-_, _≤_, _<_}
-use mathlib.Core.Path.{_≡_, refl, sym, ap, _∙_}
+use mathlib.Core.Path.{_≡_, refl, sym, ap, _∙_, subst}
 use mathlib.Core.Bool.{Bool, true, false, _||_, cond, or-true}
-use mathlib.Core.Logic.{_≢_}
+use mathlib.Core.Logic.{_⊎_, inl, inr, _≢_}
 use mathlib.Core.List.{List, [], _∷_, _++_}
 use native.Mathlib.Omega.{arith}
 use native.Mathlib.Numerals.{add-one}
+use lib.Dec.{T}
 use Rattle.model.specs.Lists.{any}
 use Rattle.model.specs.Layout.{rowFrom, rowNumbers}
 use Rattle.model.specs.Conditions.{isRow, active}
-use Rattle.model.proofs.Tests.{any-append}
+use Rattle.model.proofs.Tests.{lt-or-ge, of-true, any-append}
 use Rattle.table.specs.Entries.{rowAt, firstRows}
 use Rattle.table.proofs.Entries.{entries-more}
 use Rattle.rests.specs.Newest.{newest}
@@ -39,6 +40,30 @@ module _ (s : List ℕ) (u q : ℕ) where
       go : (b : Bool) → newest s u q k ≤ k → cond b (suc k) (newest s u q k) ≤ suc k
       go true h = omega arith
       go false h = omega arith
+
+  -- a row for the role that is the newest of many is the newest of fewer, as long as it is one of them
+  pub newest-keeps : (k n : ℕ) → k ≤ n → newest s u q n ≤ k → newest s u q k ≡ newest s u q n
+  unfolding newest
+  newest-keeps k zero l h = let e : k ≡ 0 = omega arith in ap (newest s u q) e
+  newest-keeps k (suc n) l h = go (lt-or-ge n k) (newest-keeps k n)
+    where
+      before : (b : Bool) → k ≤ n → cond b (suc n) (newest s u q n) ≤ k → (k ≤ n → newest s u q n ≤ k → newest s u q k ≡ newest s u q n) → newest s u q k ≡ cond b (suc n) (newest s u q n)
+      before true m w f = absurd (omega arith)
+      before false m w f = f m w
+
+      go : (n < k) ⊎ (k ≤ n) → (k ≤ n → newest s u q n ≤ k → newest s u q k ≡ newest s u q n) → newest s u q k ≡ newest s u q (suc n)
+      go (inl m) f = let e : k ≡ suc n = omega arith in ap (newest s u q) e
+      go (inr m) f = before (isRow u q (rowAt s n)) m h f
+
+  -- the newest row is the user's, for the role
+  pub row-for : (k : ℕ) → newest s u q k ≢ 0 → T (isRow u q (rowAt s (newest s u q k - 1)))
+  unfolding newest
+  row-for zero z = absurd (z refl)
+  row-for (suc k) z = go (isRow u q (rowAt s k)) refl z (row-for k)
+    where
+      go : (b : Bool) → isRow u q (rowAt s k) ≡ b → cond b (suc k) (newest s u q k) ≢ 0 → (newest s u q k ≢ 0 → T (isRow u q (rowAt s (newest s u q k - 1)))) → T (isRow u q (rowAt s (cond b (suc k) (newest s u q k) - 1)))
+      go true r w f = let at : k ≡ suc k - 1 = omega arith in subst (λ (n : ℕ). T (isRow u q (rowAt s n))) at (of-true (isRow u q (rowAt s k)) r)
+      go false r w f = f w
 
 -- the rows up to k, with row k behind them
 pub rows-more : (s : List ℕ) (k : ℕ) → firstRows s (suc k) ≡ firstRows s k ++ (rowAt s k ∷ [])

@@ -6,9 +6,10 @@ ghost use lib.ListN.{length, getD, take};
 ghost use Rattle.model.specs.Limits.{roles, stateSize, mostRows};
 ghost use Rattle.model.specs.Layout.{policyOf};
 ghost use Rattle.model.specs.Conditions.{meant, membership, ruleNumbered, rolesAsked, restsOn};
-ghost use Rattle.table.specs.Entries.{without-rights};
-ghost use Rattle.rests.specs.Newest.{newest};
+ghost use Rattle.table.specs.Entries.{without-rights, Sized};
+ghost use Rattle.rests.specs.Newest.{newest, RolesFit, Placed, placeIn};
 use model::ROLES;
+use model::ROW_COUNT;
 use model::Row;
 
 // The roles that a condition asks for: the first `count` of four.
@@ -86,6 +87,38 @@ pub fn newest_row(state: &[u16], k: usize, user: u16, role: u16) -> usize
             return i;
         }
         i -= 1;
+    }
+    0
+}
+
+// Where each role of the user stands: one more than its row's place, or 0. One pass serves every row that is asked for afterwards.
+pub fn places_of(state: &[u16], user: u16) -> [u16; 256]
+    requires { ⌜ Sized (now state) × RolesFit (now state) ⌝ }
+    ensures { λ r. ⌜ Placed (now (state .entry)) user r ⌝ }
+{
+    let mut places = [0u16; 256];
+    let n = table::wide(state[ROW_COUNT]);
+    let mut i: usize = 0;
+    while i < n {
+        let row = table::row_at(state, i);
+        i += 1;
+        if row.user == user {
+            places[table::wide(row.role)] = i as u16;
+        }
+    }
+    places
+}
+
+// The place of a role that is noted to stand in the first k rows: one more than it, or 0.
+pub fn place_in(places: &[u16], k: usize, role: u16) -> usize
+    requires { ⌜ length (now places) ≡ roles ⌝ }
+    ensures { λ r. ⌜ r ≡ placeIn (now (places .entry)) k role ⌝ }
+{
+    if role < ROLES {
+        let p = table::wide(places[table::wide(role)]);
+        if p <= k {
+            return p;
+        }
     }
     0
 }
