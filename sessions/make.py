@@ -6,12 +6,10 @@
                      would be written, and whether every NAME.csv in the folder
                      has its NAME.want and its one row in INDEX.md
 
-No program is asked: each wanted answer follows from the outline,
-and the comment beside it says how. The small sessions are files written by
-hand, and this script leaves them alone.
+No program is asked: each wanted answer follows from the outline, and the
+comment beside it says how. The small sessions are files written by hand, and
+this script leaves them alone.
 """
-
-import pathlib
 
 import pathlib
 import sys

@@ -1,5 +1,5 @@
 //! Moves the code that the linker puts behind this by BENCH_PAD bytes, as it was set when this was compiled. Short loops run faster or
-//! slower by where they stand within 64 bytes, on both sides; a few builds with different pads show by how much.
+//! slower by where they stand within 64 bytes, on every side; a few builds with different pads show by how much.
 
 const PAD: usize = match option_env!("BENCH_PAD") {
     None => 0,

@@ -148,7 +148,7 @@ pub fn damage_state(random: &mut Random, case: &mut Case) {
     }
 }
 
-/// A fact that rows may rest on is turned over.
+/// Facts that rows may rest on become 0: each that is 1, or not, by chance.
 fn facts_gone(random: &mut Random, state: &mut [u16]) {
     let facts = &mut state[..FACTS];
     let ones = facts.iter_mut().filter(|fact| **fact == 1);

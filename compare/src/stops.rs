@@ -4,7 +4,7 @@ use crate::case::{Case, Event};
 use crate::line;
 use crate::pair::Pair;
 use std::ptr::null_mut;
-use std::sync::atomic::{AtomicPtr, AtomicU64, Ordering::Relaxed};
+use std::sync::atomic::{AtomicPtr, Ordering::Relaxed};
 
 extern "C" {
     fn signal(number: i32, handler: usize) -> usize;
@@ -14,8 +14,6 @@ extern "C" {
 
 static PAIR: AtomicPtr<Pair<'static>> = AtomicPtr::new(null_mut());
 static EVENT: AtomicPtr<Event> = AtomicPtr::new(null_mut());
-/// The calls made through the border so far, those of cutting down included.
-pub static CALLS: AtomicU64 = AtomicU64::new(0);
 
 /// Illegal instruction, trap, abort, bus, arithmetic, segment, alarm.
 const SIGNALS: [i32; 7] = [4, 5, 6, 7, 8, 11, 14];
@@ -33,7 +31,6 @@ pub fn go_on() {
 }
 
 pub fn before(pair: &Pair, event: &Event) {
-    CALLS.fetch_add(1, Relaxed);
     PAIR.store(std::ptr::from_ref(pair).cast_mut().cast(), Relaxed);
     EVENT.store(std::ptr::from_ref(event).cast_mut(), Relaxed);
 }

@@ -1,9 +1,9 @@
-//! The role engine, a second time: written from the rules document alone, so
+//! The role engine, a second time: written from the outline alone, so
 //! that another implementation can be compared with it call by call.
 //!
 //! Raw numbers are decoded into ordinary values, the decision falls there, and
 //! the values are encoded back. A quoted sentence above a function is the
-//! document's own and says which rule the function answers for.
+//! outline's own and says which rule the function answers for.
 
 pub mod calls;
 pub mod chain;

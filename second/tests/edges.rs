@@ -1,4 +1,4 @@
-//! The document's session, and each item of "At the edges".
+//! The outline's session, and each item of "At the edges".
 
 mod common;
 use common::*;

@@ -2,6 +2,8 @@
 //!
 //! Each call takes any tables and any numbers. It does what it says, or refuses with a code, and then the second number is zero and
 //! nothing has changed. `include/adobethrum.h` says what the tables hold and which codes each call gives.
+//!
+//! Every `unsafe` below is safe for one reason: a slice is valid for as many numbers as it has, and a lent `&mut` overlaps nothing.
 
 mod border;
 
@@ -40,7 +42,6 @@ macro_rules! calls {
         $(#[$doc])*
         pub fn $name(policy: Policy, state: $state, $($number: u16),*) -> Answer {
             let [rules, kinds, rights] = [policy.rules, policy.kinds, policy.rights].map(Slice::of);
-            // Slices are valid for as many numbers as they have, and a lent `&mut` overlaps nothing.
             unsafe {
                 border::$border(
                     rules.start, rules.len, kinds.start, kinds.len, rights.start, rights.len,

@@ -6,7 +6,7 @@ const RULES: [u16; 44] = [
     0, 0, 0, 0, 0, 0, 0, 0, 0, 0, 0, // on shift
     1, 0, 0, 0, 0, 0, 0, 0, 0, 0, 0, // manager
     2, 2, 2, 0, 256, 0, 0, 0, 0, 0, 0, // dashboard memory: on shift, and appointed to the car
-    3, 2, 2, 2, 384, 0, 0, 0, 0, 0, 0, // wipe check: dashboard memory, while the bay is locked
+    3, 2, 2, 2, 384, 0, 0, 0, 0, 0, 0, // wipe check: dashboard memory, while the car is in the bay
 ];
 const KINDS: [u16; 7] = [1, 0, 0, 0, 0, 0, 0];
 const RIGHTS: [u16; 4] = [2, 20, 3, 30];

@@ -9,7 +9,7 @@ use lib.ListN.{length, getD, set, length-set}
 use lib.Seq.{getD-set-same, getD-set-other}
 use Rattle.model.specs.Lists.{without}
 use Rattle.model.specs.Records.{withRows}
-use Rattle.model.specs.Layout.{decode, policyOf, rowCount, rowFrom, rowNumbers}
+use Rattle.model.specs.Layout.{decode, policyOf, factNumbers, rowCount, rowFrom, rowNumbers}
 use Rattle.model.specs.Left.{keep, sweep, left}
 use Rattle.model.specs.declared.Row.{Row}
 use Rattle.model.proofs.Sweep.{left-last}
@@ -136,7 +136,7 @@ swept-closed ok s₀ s s′ w lost f p c =
     high : (k : ℕ) → rowPlace (rowCount s₀) ≤ k → getD s′ k 0 ≡ getD s₀ k 0
     high k h = c .above k h ∙ p .above k h
 
-    facts : Rattle.model.specs.Layout.factNumbers s′ ≡ Rattle.model.specs.Layout.factNumbers s₀
+    facts : factNumbers s′ ≡ factNumbers s₀
     facts = facts-same s₀ s′ size low
 
     certificates : decode s′ .certificates ≡ decode s₀ .certificates

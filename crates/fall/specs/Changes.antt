@@ -1,4 +1,4 @@
--- What a change of a state leaves, over values.
+-- What the pass over the rows leaves, step by step: by places while it runs, over values once it is closed.
 use Prim.Native.Nat.{ℕ, _+_, _*_, _≤_, _<_}
 use mathlib.Core.Path.{_≡_}
 use mathlib.Core.Bool.{Bool, true, false}

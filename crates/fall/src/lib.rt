@@ -1,4 +1,4 @@
-// Changing a state in place: rows that have lost their support fall, a user's rows go, rows and certificates come and go.
+// Rows go from a state, in place: those that have lost their support, or a user's. The rows left close up, and the count is set.
 ghost use mathlib.Core.Path.{_≡_};
 ghost use mathlib.Core.Bool.{true, not};
 ghost use mathlib.Core.List.{[]};

@@ -1,13 +1,13 @@
 -- The blocks: which user has which, and what one mark more says.
 use Prim.Native.Nat.{ℕ, zero, suc, _+_, _-_, _/_, _%_, _^_, _≤_, _<_}
 use mathlib.Core.Path.{_≡_, refl, sym, ap, _∙_, subst, subst⁻¹}
-use mathlib.Core.Bool.{Bool, true, false, _&&_, _||_}
+use mathlib.Core.Bool.{Bool, true, false, _&&_, _||_, and-false}
 use mathlib.Core.Logic.{_≢_, _⊎_, inl, inr}
 use mathlib.Core.List.{List, [], _∷_, _++_}
 use native.Mathlib.Omega.{arith}
 use native.Mathlib.Nat.{zero-div}
 use lib.Dec.{eqb}
-use lib.ListN.{length, getD, set, replicate, length-set}
+use lib.ListN.{length, getD, set, replicate, length-set, length-replicate}
 use lib.Seq.{getD-set-same, getD-set-other}
 use borrow.Author.Tests.{eq-eqb, ne-eqb}
 use Rattle.model.specs.Layout.{decode, rowCount, certificateCount, rowFrom, rowNumbers, certificateFrom, certificateNumbers}
@@ -46,8 +46,7 @@ getD-zeros (suc n) zero = refl
 getD-zeros (suc n) (suc i) = getD-zeros n i
 
 pub length-zeros : (n : ℕ) → length (zeros n) ≡ n
-length-zeros zero = refl
-length-zeros (suc n) = ap suc (length-zeros n)
+length-zeros n = length-replicate n 0
 
 -- the first i rows have given their users numbers
 pub record Numbering (s numbers : List ℕ) (i : ℕ) : Type 0 where
@@ -198,10 +197,6 @@ module _ (numbers words : List ℕ) (rows : List Row) (certificates : List Certi
   or-last false true = refl
   or-last false false = refl
 
-  off : (a : Bool) → (a && false) ≡ false
-  off true = refl
-  off false = refl
-
   -- one row more is entered
   pub row-entered : (words′ : List ℕ) (r : Row) → r .role < 256 → Marked words words′ (baseOf numbers (r .user) + r .role) → Indexed numbers words′ (rows ++ (r ∷ [])) certificates
   unfolding active
@@ -217,13 +212,13 @@ module _ (numbers words : List ℕ) (rows : List Row) (certificates : List Certi
             ∙ sym (any-append (isRow u q) rows (r ∷ []));
         kinds-marked = λ u k h j.
             m .marks (baseOf numbers u + (256 + k))
-            ∙ ap (λ (b : Bool). b || marked words (baseOf numbers u + (256 + k))) (same-place u (r .user) (256 + k) (r .role) h (omega arith) (omega arith) ∙ ap (λ (b : Bool). eqb (r .user) u && b) (ne-eqb (r .role) (256 + k) (λ e. omega (arith, e))) ∙ off (eqb (r .user) u))
+            ∙ ap (λ (b : Bool). b || marked words (baseOf numbers u + (256 + k))) (same-place u (r .user) (256 + k) (r .role) h (omega arith) (omega arith) ∙ ap (λ (b : Bool). eqb (r .user) u && b) (ne-eqb (r .role) (256 + k) (λ e. omega (arith, e))) ∙ and-false (eqb (r .user) u))
             ∙ x .kinds-marked u k h j;
         beyond = λ u q k. any-append (isRow u q) rows (r ∷ []) ∙ (λ i. x .beyond u q k i || (out u q k i || false));
       }
     where
       out : (u q : ℕ) → 256 ≤ q → isRow u q r ≡ false
-      out u q k = ap (λ (b : Bool). eqb (r .user) u && b) (ne-eqb (r .role) q (λ e. omega (arith, e))) ∙ off (eqb (r .user) u)
+      out u q k = ap (λ (b : Bool). eqb (r .user) u && b) (ne-eqb (r .role) q (λ e. omega (arith, e))) ∙ and-false (eqb (r .user) u)
 
   -- one certificate more is entered
   pub certificate-entered : (words′ : List ℕ) (c : Certificate) → c .kind < 128 → Marked words words′ (baseOf numbers (c .appointee) + (256 + c .kind)) → Indexed numbers words′ rows (certificates ++ (c ∷ []))
@@ -235,7 +230,7 @@ module _ (numbers words : List ℕ) (rows : List Row) (certificates : List Certi
         room = λ u. same-room words words′ (baseOf numbers u) (m .size) (x .room u);
         roles-marked = λ u q h k.
             m .marks (baseOf numbers u + q)
-            ∙ ap (λ (b : Bool). b || marked words (baseOf numbers u + q)) (same-place u (c .appointee) q (256 + c .kind) h (omega arith) (omega arith) ∙ ap (λ (b : Bool). eqb (c .appointee) u && b) (ne-eqb (256 + c .kind) q (λ e. omega (arith, e))) ∙ off (eqb (c .appointee) u))
+            ∙ ap (λ (b : Bool). b || marked words (baseOf numbers u + q)) (same-place u (c .appointee) q (256 + c .kind) h (omega arith) (omega arith) ∙ ap (λ (b : Bool). eqb (c .appointee) u && b) (ne-eqb (256 + c .kind) q (λ e. omega (arith, e))) ∙ and-false (eqb (c .appointee) u))
             ∙ x .roles-marked u q h k;
         kinds-marked = λ u k h j.
             m .marks (baseOf numbers u + (256 + k))

@@ -18,6 +18,7 @@ use model::ROLES;
 use model::ROW_COUNT;
 use model::Row;
 
+// How many marks a block has, and from which on they are kinds.
 const BLOCK: usize = 384;
 
 const KINDS: usize = 256;

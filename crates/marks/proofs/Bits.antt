@@ -8,7 +8,7 @@ use native.Mathlib.Omega.{arith}
 use native.Mathlib.Nat.{mod-eq-of-lt, zero-div, mul-comm, pow-suc, div-div-eq-div-mul}
 use lib.Bits.{bitOr, or-shr, or-mod, or-lt}
 use lib.Pow.{pow-lt}
-use lib.Dec.{eqb}
+use lib.Dec.{eqb, eqb·suc-suc}
 use lib.ListN.{length, getD, set, length-set}
 use lib.Seq.{getD-set-same, getD-set-other}
 use borrow.Author.Tests.{eq-eqb, ne-eqb}
@@ -25,13 +25,6 @@ eq-or-ne (suc a) (suc b) = go (eq-or-ne a b)
     go (inr q) = inr (λ e. q (omega (arith, e)))
 
 -- ── bits ──
-
-same-suc : (a b : ℕ) → eqb (suc a) (suc b) ≡ eqb a b
-same-suc a b = go (eq-or-ne a b)
-  where
-    go : (a ≡ b) ⊎ (a ≢ b) → eqb (suc a) (suc b) ≡ eqb a b
-    go (inl q) = eq-eqb (suc a) (suc b) (ap suc q) ∙ sym (eq-eqb a b q)
-    go (inr q) = ne-eqb (suc a) (suc b) (λ e. q (omega (arith, e))) ∙ sym (ne-eqb a b q)
 
 two-bits : (x y : ℕ) → x < 2 → y < 2 → eqb (bitOr x y) 1 ≡ (eqb y 1 || eqb x 1)
 two-bits zero zero h k = refl
@@ -53,7 +46,7 @@ bit-of-power (suc j) zero = ap (λ (n : ℕ). eqb (n / 1 % 2) 1) (pow-suc 2 j) �
     even : 2 ^ j * 2 / 1 % 2 ≡ 0
     even = omega arith
 bit-of-power zero (suc i) = down 1 i ∙ ap (λ (n : ℕ). eqb (n % 2) 1) (zero-div (2 ^ i)) ∙ sym (ne-eqb (suc i) 0 (λ q. omega (arith, q)))
-bit-of-power (suc j) (suc i) = down (2 ^ suc j) i ∙ ap (λ (n : ℕ). bit n i) half ∙ bit-of-power j i ∙ sym (same-suc i j)
+bit-of-power (suc j) (suc i) = down (2 ^ suc j) i ∙ ap (λ (n : ℕ). bit n i) half ∙ bit-of-power j i ∙ sym (eqb·suc-suc i j)
   where
     half : 2 ^ suc j / 2 ≡ 2 ^ j
     half = ap (λ (n : ℕ). n / 2) (pow-suc 2 j) ∙ omega arith

@@ -1,9 +1,9 @@
 -- The effective privileges: what is computed is definition 10, and the user holds them.
 use Prim.Native.Nat.{ℕ}
-use mathlib.Core.Path.{_≡_, refl, sym, ap, _∙_, subst, subst⁻¹}
+use mathlib.Core.Path.{_≡_, refl, ap, subst, subst⁻¹}
 use mathlib.Core.Bool.{Bool, true, false, not, _&&_, _||_, cond}
 use mathlib.Core.Logic.{_↔_, _⊎_, inl, inr}
-use mathlib.Core.List.{List, [], _∷_, _++_, reverse, reverse-cons, reverse-reverse, append-nil, append-assoc, List·Memᴰ, List·Memᴰ·head, List·Memᴰ·tail, List·Memᴰ·cases-cons, List·Memᴰ·not-nil, Memᴰ·append-left, Memᴰ·append-right}
+use mathlib.Core.List.{List, [], _∷_, _++_, reverse, reverse-cons, reverse-append, reverse-reverse, append-nil, append-assoc, List·Memᴰ, List·Memᴰ·head, List·Memᴰ·tail, List·Memᴰ·cases-cons, List·Memᴰ·not-nil, Memᴰ·append-left, Memᴰ·append-right}
 use lib.Dec.{T, eqb}
 use Rattle.model.specs.Lists.{any, allOverEarlier}
 use Rattle.model.specs.Records.{Policy, State, World, worldOf}
@@ -108,8 +108,7 @@ module _ (p : Policy) (u x : ℕ) where
 -- ── sound rows are stacked ──
 
 pub reverse-last : (rows : List Row) (r : Row) → reverse (rows ++ (r ∷ [])) ≡ r ∷ reverse rows
-reverse-last rows r =
-    ap reverse (ap (λ (l : List Row). l ++ (r ∷ [])) (sym (reverse-reverse rows)) ∙ sym (reverse-cons r (reverse rows))) ∙ reverse-reverse (r ∷ reverse rows)
+reverse-last rows r = reverse-append rows (r ∷ [])
 
 reverse-member : (rows : List Row) (r : Row) → List·Memᴰ r rows → List·Memᴰ r (reverse rows)
 reverse-member [] r m = m

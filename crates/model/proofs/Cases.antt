@@ -1,5 +1,5 @@
 -- The ten cases that "At the edges" marks P, as one table under one statement, which holds by computation; and five more cases, of what
--- the document allows or asks in a single sentence, as a second table. The wanted answers are worked out from the document.
+-- the outline allows or asks in a single sentence, as a second table. The wanted answers are worked out from the outline.
 use Prim.Native.Nat.{ℕ, zero, suc, _+_, _*_, _-_}
 use mathlib.Core.Path.{_≡_, refl}
 use mathlib.Core.Bool.{Bool, true, _&&_}

@@ -5,7 +5,7 @@ use mathlib.Core.Bool.{false}
 use mathlib.Core.Logic.{_≢_, _⊎_, inl, inr}
 use mathlib.Core.List.{List, [], _∷_}
 use native.Mathlib.Omega.{arith}
-use lib.Dec.{eqb}
+use lib.Dec.{eqb, eqb·suc-zero}
 use lib.ListN.{length, length-append}
 use Rattle.model.specs.Lists.{without}
 use Rattle.model.specs.Records.{Tables, Policy, State, worldOf, withFact}
@@ -20,12 +20,8 @@ use Rattle.model.specs.Words.{Unchanged, activeRows}
 use Rattle.model.specs.Tally.{Made, Tally, grantedAfter, lostAfter, next, tallyFrom, tally}
 use Rattle.model.proofs.Parts.{part-length, without-part}
 use Rattle.model.proofs.Sweep.{left-part}
-use Rattle.model.proofs.Refusals.{refused-unchanged, accepted-done}
+use Rattle.model.proofs.Refusals.{accepted-or-refused, refused-unchanged, accepted-done}
 use Rattle.model.proofs.Accepted.{effect-decoded}
-
-accepted-or-refused : (n : ℕ) → (n ≡ 0) ⊎ (n ≢ 0)
-accepted-or-refused zero = inl refl
-accepted-or-refused (suc n) = inr (λ e. absurd (omega arith))
 
 -- what went is the difference
 gone-count : (p : Policy) (t : State) → (length (t .rows) - length (left (supported (worldOf p t)) (t .rows))) + length (left (supported (worldOf p t)) (t .rows)) ≡ length (t .rows)
@@ -47,7 +43,7 @@ module _ (t : Tables) (s list : List ℕ) (granted lost : ℕ) (even : granted �
     where
       not-accepted : (k : ℕ) → k ≢ 0 → eqb k 0 ≡ false
       not-accepted zero h = absurd (h refl)
-      not-accepted (suc k) h = lib.Dec.eqb·suc-zero k
+      not-accepted (suc k) h = eqb·suc-zero k
 
       go : (c : Call) (o : Outcome) → o .code ≢ 0 → Unchanged s list o → grantedAfter granted o c ≡ lostAfter lost o c + activeRows (o .state)
       go fresh o h same = rw (not-accepted (o .code) h, same .state-same) even
@@ -79,7 +75,7 @@ module _ (t : Tables) (s list : List ℕ) (granted lost : ℕ) (even : granted �
   accepted-even (chain u q) e = rw (rows-after (chain u q) e) even
 
   pub call-even : (c : Call) → Even c
-  call-even c = go (accepted-or-refused (answer t s list c .code))
+  call-even c = go (accepted-or-refused t s list c)
     where
       go : (answer t s list c .code ≡ 0) ⊎ (answer t s list c .code ≢ 0) → Even c
       go (inl e) = accepted-even c e

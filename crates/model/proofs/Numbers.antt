@@ -106,6 +106,14 @@ in-parts s n m h =
 
 -- ── rows and certificates ──
 
+-- three numbers, one by one
+three-forth : (l : List ℕ) → length l ≡ 3 → getD l 0 0 ∷ getD l 1 0 ∷ getD l 2 0 ∷ [] ≡ l
+three-forth [] e = absurd (omega arith)
+three-forth (a ∷ []) e = absurd (omega arith)
+three-forth (a ∷ b ∷ []) e = absurd (omega arith)
+three-forth (a ∷ b ∷ c ∷ []) e = refl
+three-forth (a ∷ b ∷ c ∷ d ∷ l) e = absurd (omega arith)
+
 row-width : (r : Row) → length (fromRow r) ≡ rowWidth
 row-width r = refl
 
@@ -113,11 +121,7 @@ row-back : (r : Row) → rowFrom (fromRow r) ≡ r
 row-back r = refl
 
 row-forth : (l : List ℕ) → length l ≡ rowWidth → fromRow (rowFrom l) ≡ l
-row-forth [] e = absurd (omega arith)
-row-forth (a ∷ []) e = absurd (omega arith)
-row-forth (a ∷ b ∷ []) e = absurd (omega arith)
-row-forth (a ∷ b ∷ c ∷ []) e = refl
-row-forth (a ∷ b ∷ c ∷ d ∷ l) e = absurd (omega arith)
+row-forth l e = three-forth l e
 
 certificate-width : (c : Certificate) → length (fromCertificate c) ≡ certificateWidth
 certificate-width c = refl
@@ -126,11 +130,7 @@ certificate-back : (c : Certificate) → certificateFrom (fromCertificate c) ≡
 certificate-back c = refl
 
 certificate-forth : (l : List ℕ) → length l ≡ certificateWidth → fromCertificate (certificateFrom l) ≡ l
-certificate-forth [] e = absurd (omega arith)
-certificate-forth (a ∷ []) e = absurd (omega arith)
-certificate-forth (a ∷ b ∷ []) e = absurd (omega arith)
-certificate-forth (a ∷ b ∷ c ∷ []) e = refl
-certificate-forth (a ∷ b ∷ c ∷ d ∷ l) e = absurd (omega arith)
+certificate-forth l e = three-forth l e
 
 -- ── the state ──
 

@@ -1,12 +1,12 @@
 -- Withdrawals in any order. What a list leaves is what taking all of it away at once leaves, by the order theory of largest
 -- supported parts and not by cases on pairs of calls.
-use Prim.Native.Nat.{ℕ, zero, suc, _+_, _-_, _≤_}
-use mathlib.Core.Path.{_≡_, refl, sym, ap, _∙_, subst, subst⁻¹}
-use mathlib.Core.Bool.{Bool, true, false, not, _||_}
+use Prim.Native.Nat.{ℕ, _-_, _≤_}
+use mathlib.Core.Path.{_≡_, sym, ap, _∙_, subst, subst⁻¹}
+use mathlib.Core.Bool.{Bool, false, not, _||_, or-false}
 use mathlib.Core.Logic.{_≢_, _⊎_, inl, inr}
 use mathlib.Core.List.{List, [], _∷_, _++_, List·Memᴰ, List·Permᴰ, Sublistᴰ}
 use native.Mathlib.Omega.{arith}
-use lib.Dec.{T, eqb, ltb, eqb→eq}
+use lib.Dec.{T, eqb, ltb, eqb→eq, nltb→le}
 use lib.ListN.{set}
 use lib.Seq.{set-out}
 use Rattle.model.specs.Lists.{every, without, isBit}
@@ -27,7 +27,7 @@ use Rattle.model.proofs.Parts.{without-none, without-same, part-member,
 use Rattle.model.proofs.Sweep.{left-whole, in-turn-or-at-once, less-keeps-more}
 use Rattle.model.proofs.Support.{less-supports, row-supported, row-user}
 use Rattle.model.proofs.Numbers.{sound-decode, sound-formed, encode-decode, decode-encode}
-use Rattle.model.proofs.Refusals.{refused-unchanged, passed-accepted}
+use Rattle.model.proofs.Refusals.{accepted-or-refused, refused-unchanged, passed-accepted}
 use Rattle.model.proofs.Kept.{sound-rows, sound-certificates, rows-without-user, users-gone}
 use Rattle.model.proofs.Accepted.{fallen-largest, by-user, effect-decoded, accepted-sound}
 use Rattle.model.proofs.Taken.{Within, goneRow, gone-by-user, any-order, facts-one, facts-unnamed, taken-facts, taken-certificates, taken-rows, taken-less, taken-same, unnamed, all-at-once-sound, all-at-once-largest}
@@ -75,10 +75,6 @@ none-taken p t h = ap (fallen p) (λ i. record { facts = facts-unnamed [] (λ f.
 
 -- ── one withdrawal is its call ──
 
-or-false : (b : Bool) → (b || false) ≡ b
-or-false true = refl
-or-false false = refl
-
 fact-taken : (p : Policy) (t : State) (f : ℕ) → allAtOnce p t (factFalse f ∷ []) ≡ fallen p (withFact t f 0)
 unfolding allAtOnce takenAway
 fact-taken p t f =
@@ -96,12 +92,6 @@ user-taken p t u h =
     ∙ still p (withRows t (without (ofUser u) (t .rows))) (users-gone p t (ofUser u) (by-user u) h)
 
 module _ (t : Tables) (s : List ℕ) (h : Sound t s) where
-  p : Policy
-  p = policyOf t
-
-  now : State
-  now = decode s
-
   sound-now : SoundState (policyOf t) (decode s)
   sound-now = sound-decode (policyOf t) s (h .state)
 
@@ -121,7 +111,7 @@ module _ (t : Tables) (s : List ℕ) (h : Sound t s) where
       go (inl l) =
           absurd (n (passed-accepted t s [] (environment f 0)
           (not-not-of (soundPolicy t) (h .policy), (not-not-of (sound (policyOf t) s) (h .state), (not-not-of (every (ltb f facts ∷ isBit 0 ∷ [])) (of-each (ltb f facts ∷ isBit 0 ∷ []) (l, (tt, tt))), tt)))))
-      go (inr l) = lib.Dec.nltb→le f facts l
+      go (inr l) = nltb→le f facts l
 
   certificate-refused : (c : Certificate) → answer t s [] (withdraw (c .appointee) (c .kind) (c .appointer)) .code ≢ 0 → T (not (stands (decode s) c))
   unfolding courseOf judgedFirst withdrawOn certificateClauses
@@ -176,23 +166,15 @@ module _ (t : Tables) (s : List ℕ) (h : Sound t s) where
   refused-takes-nothing (loggedOut u) n =
       user-taken (policyOf t) (decode s) u sound-now ∙ (λ i. record { facts = decode s .facts; rows = without-none (ofUser u) (decode s .rows) (user-refused u n) i; certificates = decode s .certificates })
 
-  -- accepted or refused
-  accepted-or-not : (w : Withdrawal) → (answer t s [] (callOf w) .code ≡ 0) ⊎ (answer t s [] (callOf w) .code ≢ 0)
-  accepted-or-not w = go (answer t s [] (callOf w) .code)
-    where
-      go : (n : ℕ) → (n ≡ 0) ⊎ (n ≢ 0)
-      go zero = inl refl
-      go (suc n) = inr (λ e. absurd (omega arith))
-
   pub one-withdrawal : (w : Withdrawal) → decode (answer t s [] (callOf w) .state) ≡ allAtOnce (policyOf t) (decode s) (w ∷ [])
-  one-withdrawal w = go (accepted-or-not w)
+  one-withdrawal w = go (accepted-or-refused t s [] (callOf w))
     where
       go : (answer t s [] (callOf w) .code ≡ 0) ⊎ (answer t s [] (callOf w) .code ≢ 0) → decode (answer t s [] (callOf w) .state) ≡ allAtOnce (policyOf t) (decode s) (w ∷ [])
       go (inl e) = effect-decoded t s [] (callOf w) e ∙ call-takes w
       go (inr n) = ap decode (refused-unchanged t s [] (callOf w) n .state-same) ∙ sym (refused-takes-nothing w n)
 
   pub still-sound : (w : Withdrawal) → Sound t (answer t s [] (callOf w) .state)
-  still-sound w = record { policy = h .policy; state = go (accepted-or-not w) }
+  still-sound w = record { policy = h .policy; state = go (accepted-or-refused t s [] (callOf w)) }
     where
       go : (answer t s [] (callOf w) .code ≡ 0) ⊎ (answer t s [] (callOf w) .code ≢ 0) → T (sound (policyOf t) (answer t s [] (callOf w) .state))
       go (inl e) = accepted-sound t s [] (callOf w) e

@@ -2,8 +2,9 @@
 use Prim.Native.Nat.{ℕ, zero, suc}
 use mathlib.Core.Path.{_≡_, refl, sym, _∙_, subst⁻¹}
 use mathlib.Core.Bool.{Bool, true, false, not, cond}
-use mathlib.Core.Logic.{_≢_}
+use mathlib.Core.Logic.{_≢_, _⊎_, inl, inr}
 use mathlib.Core.List.{List, [], _∷_}
+use native.Mathlib.Omega.{arith}
 use lib.Dec.{T}
 use Rattle.model.specs.Lists.{all, isZero}
 use Rattle.model.specs.Records.{Tables}
@@ -76,6 +77,14 @@ decided-unchanged : (n : ℕ) (s list : List ℕ) (e : Effect) → n ≢ 0 → U
 unfolding decided
 decided-unchanged zero s list e h = absurd (h refl)
 decided-unchanged (suc n) s list e h = record { second-zero = refl; state-same = refl; list-same = refl }
+
+-- a call is accepted, or it is refused
+pub accepted-or-refused : (t : Tables) (s list : List ℕ) (c : Call) → (answer t s list c .code ≡ 0) ⊎ (answer t s list c .code ≢ 0)
+accepted-or-refused t s list c = go (answer t s list c .code)
+  where
+    go : (n : ℕ) → (n ≡ 0) ⊎ (n ≢ 0)
+    go zero = inl refl
+    go (suc n) = inr (λ e. absurd (omega arith))
 
 pub refused-unchanged : (t : Tables) (s list : List ℕ) (c : Call) → answer t s list c .code ≢ 0 → Unchanged s list (answer t s list c)
 unfolding answer

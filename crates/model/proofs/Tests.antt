@@ -144,7 +144,6 @@ module _ {A : Type 0} where
       go true e = refl
       go false e = e
 
-  -- the element at a place is a member
   pub all-append : (test : A → Bool) (xs ys : List A) → all test (xs ++ ys) ≡ (all test xs && all test ys)
   all-append test [] ys = refl
   all-append test (x ∷ xs) ys = go (test x) (all-append test xs ys)
@@ -153,6 +152,7 @@ module _ {A : Type 0} where
       go true e = e
       go false e = refl
 
+  -- the element at a place is a member
   pub at-place : (xs : List A) (i : ℕ) (d : A) → i < length xs → List·Memᴰ (getD xs i d) xs
   at-place [] i d h = absurd (omega arith)
   at-place (x ∷ xs) zero d h = List·Memᴰ·head refl

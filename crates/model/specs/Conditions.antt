@@ -60,7 +60,7 @@ active rows u q = any (isRow u q) rows
 unfoldable pub someStands : List Certificate → ℕ → ℕ → Bool
 someStands certificates u k = any (λ (c : Certificate). eqb (c .appointee) u && eqb (c .kind) k) certificates
 
--- definition 6, as 01 states it: "a role, if the user is active in it; a kind, if some certificate of that kind stands for the
+-- definition 6, as the outline states it: "a role, if the user is active in it; a kind, if some certificate of that kind stands for the
 -- user and the user is active in all the kind's prerequisite roles; a fact, if it is 1."
 unfoldable pub holds : World → List Row → ℕ → Condition → Bool
 holds w rows u (role q) = active rows u q

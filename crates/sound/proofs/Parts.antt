@@ -1,7 +1,7 @@
 -- Tables judged entry by entry, each over those before it, and what a well formed state keeps to.
 use Prim.Native.Nat.{ℕ, zero, suc, _+_, _≤_, _<_}
 use mathlib.Core.Path.{_≡_, sym, ap, _∙_}
-use mathlib.Core.Bool.{Bool, true, false, _&&_}
+use mathlib.Core.Bool.{Bool, true, false, _&&_, and-false}
 use mathlib.Core.Logic.{_⊎_, inl, inr}
 use mathlib.Core.List.{List, [], _∷_}
 use native.Mathlib.Omega.{arith}
@@ -15,7 +15,6 @@ use Rattle.model.specs.Sound.{formClauses, wellFormed}
 use Rattle.model.proofs.Tests.{of-true, each, earlier-append, lt-or-ge}
 use Rattle.table.specs.Entries.{entry, entries, Sized}
 use Rattle.table.proofs.Entries.{entries-more}
-use Rattle.policy.proofs.Clauses.{and-false}
 
 -- ── a loop that judges each entry over those before it ──
 

@@ -1,6 +1,6 @@
 -- What soundness of a state does not look at: a certificate names kinds, a row names kinds and a rule, and neither names a right.
 use Prim.Native.Nat.{ℕ}
-use mathlib.Core.Path.{_≡_, refl, ap, _∙_}
+use mathlib.Core.Path.{_≡_, refl}
 use mathlib.Core.Bool.{not, _&&_}
 use mathlib.Core.List.{List, [], _∷_}
 use lib.Dec.{eqb, ltb}
@@ -9,13 +9,12 @@ use Rattle.model.specs.Lists.{every, any, allOverEarlier}
 use Rattle.model.specs.Limits.{users, roles}
 use Rattle.model.specs.Records.{Tables, Policy, State, worldOf}
 use Rattle.model.specs.Layout.{policyOf, decode}
-use Rattle.model.specs.Conditions.{role, kind, membership, noRule, active, allHold, supported}
+use Rattle.model.specs.Conditions.{noRule, active}
 use Rattle.model.specs.Sound.{sameCertificate, certificateClauses, certificateSound, rowClauses, rowSound, wellFormed, soundRecords, sound}
-use Rattle.model.specs.declared.Rule.{Rule}
 use Rattle.model.specs.declared.Row.{Row}
 use Rattle.model.specs.declared.Certificate.{Certificate}
 use Rattle.table.specs.Entries.{without-rights}
-use Rattle.table.proofs.Worlds.{all-hold-same}
+use Rattle.table.proofs.Worlds.{supported-same}
 
 module _ (p₁ p₂ : Policy) (kinds : p₁ .kinds ≡ p₂ .kinds) where
   certificate-clauses-same : (earlier : List Certificate) (c : Certificate) → certificateClauses p₁ earlier c ≡ certificateClauses p₂ earlier c
@@ -26,12 +25,6 @@ module _ (p₁ p₂ : Policy) (kinds : p₁ .kinds ≡ p₂ .kinds) where
   certificates-same cs = λ i. allOverEarlier (λ (earlier : List Certificate) (c : Certificate). every (certificate-clauses-same earlier c i)) [] cs
 
   module _ (t : State) (rules : p₁ .rules ≡ p₂ .rules) where
-    supported-same : (earlier : List Row) (r : Row) → supported (worldOf p₁ t) earlier r ≡ supported (worldOf p₂ t) earlier r
-    unfolding supported
-    supported-same earlier r =
-        ap (λ (rs : List Rule). allHold (worldOf p₁ t) earlier (r .user) (membership (getD rs (r .rule) noRule))) rules
-        ∙ all-hold-same p₁ p₂ t kinds earlier (r .user) (membership (getD (p₂ .rules) (r .rule) noRule))
-
     row-clauses-same : (earlier : List Row) (r : Row) → rowClauses (worldOf p₁ t) earlier r ≡ rowClauses (worldOf p₂ t) earlier r
     unfolding rowClauses
     row-clauses-same earlier r =
@@ -41,7 +34,7 @@ module _ (p₁ p₂ : Policy) (kinds : p₁ .kinds ≡ p₂ .kinds) where
         ∷ not (active earlier (r .user) (r .role))
         ∷ ltb (r .rule) (length (rules i))
         ∷ eqb (getD (rules i) (r .rule) noRule .target) (r .role)
-        ∷ supported-same earlier r i
+        ∷ supported-same p₁ p₂ t rules kinds i earlier r
         ∷ []
 
     rows-same : (rows : List Row) → allOverEarlier (rowSound (worldOf p₁ t)) [] rows ≡ allOverEarlier (rowSound (worldOf p₂ t)) [] rows

@@ -3,7 +3,7 @@ use Prim.Native.Nat.{ℕ, _+_, _*_, _%_}
 use mathlib.Core.Path.{_≡_, refl, sym, ap, _∙_, subst⁻¹}
 use mathlib.Core.Bool.{Bool, true, false, true≢false, _||_}
 use mathlib.Core.Logic.{_⊎_, inl, inr}
-use mathlib.Core.List.{List, [], _∷_, _++_, List·Memᴰ, List·Memᴰ·not-nil, List·Memᴰ·cases-cons, List·Memᴰ·head, List·Memᴰ·tail}
+use mathlib.Core.List.{List, [], _∷_, _++_, List·Memᴰ, List·Memᴰ·not-nil, List·Memᴰ·append-cases, List·Memᴰ·eq-of-singleton}
 use lib.Dec.{T, eqb, eqb→eq}
 use borrow.Author.Tests.{eq-eqb}
 use Rattle.model.specs.Lists.{any}
@@ -35,30 +35,13 @@ untraced traces certificates c t e = go (any (sameCertificate c) certificates) r
         let found = any-of (sameCertificate c) certificates (of-true (any (sameCertificate c) certificates) q) in
         absurd (true≢false (sym (t .left (found .0) (found .1)) ∙ ap (marked traces) (sym (same-trace c (found .0) (found .2))) ∙ e))
 
--- a member of a list with one element more
-last-member : {A : Type 0} (xs : List A) (x y : A) → List·Memᴰ y (xs ++ (x ∷ [])) → List·Memᴰ y xs ⊎ (y ≡ x)
-last-member [] x y m = go (List·Memᴰ·cases-cons m)
-  where
-    go : (y ≡ x) ⊎ List·Memᴰ y [] → List·Memᴰ y [] ⊎ (y ≡ x)
-    go (inl e) = inr e
-    go (inr h) = inl h
-last-member {A = A} (z ∷ xs) x y m = go (last-member xs x y) (List·Memᴰ·cases-cons m)
-  where
-    on : List·Memᴰ y xs ⊎ (y ≡ x) → List·Memᴰ y (z ∷ xs) ⊎ (y ≡ x)
-    on (inl h) = inl (List·Memᴰ·tail h)
-    on (inr e) = inr e
-
-    go : (List·Memᴰ y (xs ++ (x ∷ [])) → List·Memᴰ y xs ⊎ (y ≡ x)) → (y ≡ z) ⊎ List·Memᴰ y (xs ++ (x ∷ [])) → List·Memᴰ y (z ∷ xs) ⊎ (y ≡ x)
-    go later (inl e) = inl (subst⁻¹ (λ (v : A). List·Memᴰ v (z ∷ xs)) e (List·Memᴰ·head refl))
-    go later (inr h) = on (later h)
-
 -- one certificate more has left its trace
 pub traced-on : (s traces traces′ : List ℕ) (i at : ℕ) (c : Certificate) → c ≡ certificateAt s i → at ≡ trace c → Traced traces (firstCertificates s i) → Marked traces traces′ at → Traced traces′ (firstCertificates s (i + 1))
 unfolding firstCertificates certificateAt
 traced-on s traces traces′ i at c e a t m =
     subst⁻¹ (λ (l : List Certificate). Traced traces′ l) (entries-more certificateFrom 3 (certificateNumbers s) i ∙ ap (λ (d : Certificate). firstCertificates s i ++ (d ∷ [])) (sym e))
-    (record { size = m .size ∙ t .size; left = λ d h. go d (last-member (firstCertificates s i) c d h) })
+    (record { size = m .size ∙ t .size; left = λ d h. go d (List·Memᴰ·append-cases (firstCertificates s i) h) })
   where
-    go : (d : Certificate) → List·Memᴰ d (firstCertificates s i) ⊎ (d ≡ c) → marked traces′ (trace d) ≡ true
+    go : (d : Certificate) → List·Memᴰ d (firstCertificates s i) ⊎ List·Memᴰ d (c ∷ []) → marked traces′ (trace d) ≡ true
     go d (inl h) = m .marks (trace d) ∙ or-later (eqb (trace d) at) (marked traces (trace d)) (t .left d h)
-    go d (inr q) = m .marks (trace d) ∙ ap (λ (b : Bool). b || marked traces (trace d)) (eq-eqb (trace d) at (ap trace q ∙ sym a))
+    go d (inr q) = m .marks (trace d) ∙ ap (λ (b : Bool). b || marked traces (trace d)) (eq-eqb (trace d) at (ap trace (List·Memᴰ·eq-of-singleton q) ∙ sym a))

@@ -1,4 +1,4 @@
--- Ranges, judged apart from the rest.
+-- Ranges, judged before the rest: only users, roles and kinds in range have a place in the index.
 use Prim.Native.Nat.{ℕ, _<_}
 use mathlib.Core.Bool.{Bool}
 use mathlib.Core.List.{List, [], _∷_, List·Memᴰ}

@@ -29,8 +29,10 @@ use model::USERS;
 
 const FACTS: usize = 64;
 
+// The most rows, and the most certificates.
 const MOST: usize = 256;
 
+// How many traces there are: the marks of 1,024 numbers.
 const TRACES: usize = 16384;
 
 // "64 facts, each 0 or 1"

@@ -10,7 +10,7 @@ use lib.Dec.{T}
 use lib.ListN.{length, getD, take, drop, length-drop, length-take, List·getD-eq-default}
 use lib.Seq.{getD-take, getD-drop, drop-drop, take-suc, ext-getD, length-take-le}
 use Rattle.model.specs.Lists.{any, all, rowsOf}
-use Rattle.model.proofs.Tests.{all-append, is-true, of-true, any-append, of-any, all-of}
+use Rattle.model.proofs.Tests.{all-append, at-place, is-true, of-true, any-append, of-any, all-of}
 use Rattle.model.proofs.Numbers.{length-rows, length-map}
 use Rattle.table.specs.Entries.{entry, entries, ruleAt, kindAt, rightAt, rowAt, certificateAt}
 
@@ -40,7 +40,7 @@ module _ {A : Type 0} (from : List ℕ → A) (width : ℕ) where
 
   pub entry-member : (table : List ℕ) (n i : ℕ) → i < n → List·Memᴰ (entry from width table i) (entries from width table n)
   entry-member table n i h =
-      subst (λ (x : A). List·Memᴰ x (entries from width table n)) (entry-in table n i (entry from width table i) h) (Rattle.model.proofs.Tests.at-place (entries from width table n) i (entry from width table i) (omega (arith, length-entries table n)))
+      subst (λ (x : A). List·Memᴰ x (entries from width table n)) (entry-in table n i (entry from width table i) h) (at-place (entries from width table n) i (entry from width table i) (omega (arith, length-entries table n)))
 
   -- ── a loop that looks for an entry that passes ──
 
@@ -68,7 +68,7 @@ module _ {A : Type 0} (test : A → Bool) where
   all-next l d j h a b = ap (λ (n : ℕ). all test (take n l)) (add-one j) ∙ ap (all test) (take-suc l j d h) ∙ all-last (take j l) (getD l j d) a b
 
   pub all-miss : (l : List A) (d : A) (n j : ℕ) → j < n → j < length l → test (getD l j d) ≡ false → all test (take n l) ≡ false
-  all-miss l d n j h k e = all-spoilt (take n l) (getD l j d) (subst (λ (x : A). List·Memᴰ x (take n l)) (getD-take n l j d h) (Rattle.model.proofs.Tests.at-place (take n l) j d (simp length-take (omega arith)))) e
+  all-miss l d n j h k e = all-spoilt (take n l) (getD l j d) (subst (λ (x : A). List·Memᴰ x (take n l)) (getD-take n l j d h) (at-place (take n l) j d (simp length-take (omega arith)))) e
 
 module _ {A : Type 0} (from : List ℕ → A) (width : ℕ) where
   pub entries-all-next : (test : A → Bool) (table : List ℕ) (j : ℕ) → all test (entries from width table j) ≡ true → test (entry from width table j) ≡ true → all test (entries from width table (j + 1)) ≡ true

@@ -10,7 +10,7 @@ use lib.Dec.{eqb}
 use lib.Seq.{take-all}
 use Rattle.model.specs.Lists.{all}
 use Rattle.model.specs.Records.{Policy, State, worldOf}
-use Rattle.model.specs.Conditions.{Condition, role, kind, fact, malformed, meant, prerequisiteRoles, noKind, noRule, membership, activating, active, supported, satisfied, someStands, holds, allHold}
+use Rattle.model.specs.Conditions.{Condition, role, kind, fact, malformed, meant, prerequisiteRoles, noKind, noRule, membership, activating, active, supported, satisfied, someStands, holds}
 use Rattle.model.specs.declared.Row.{Row}
 use Rattle.model.specs.declared.Kind.{Kind}
 use Rattle.model.proofs.Tests.{lt-or-ge}
@@ -21,9 +21,6 @@ holds-same p₁ p₂ t e rows u (role q) = refl
 holds-same p₁ p₂ t e rows u (kind k) = ap (λ (ks : List Kind). someStands (t .certificates) u k && all (active rows u) (prerequisiteRoles (getD ks k noKind))) e
 holds-same p₁ p₂ t e rows u (fact f) = refl
 holds-same p₁ p₂ t e rows u malformed = refl
-
-pub all-hold-same : (p₁ p₂ : Policy) (t : State) → p₁ .kinds ≡ p₂ .kinds → (rows : List Row) (u : ℕ) (cs : List ℕ) → allHold (worldOf p₁ t) rows u cs ≡ allHold (worldOf p₂ t) rows u cs
-all-hold-same p₁ p₂ t e rows u cs = λ i. all (λ (c : ℕ). holds-same p₁ p₂ t e rows u (meant c) i) cs
 
 -- as many as there are
 pub take-least : {A : Type 0} (m n : ℕ) (l : List A) → length l ≡ n → take (min m n) l ≡ take m l

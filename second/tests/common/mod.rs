@@ -169,7 +169,7 @@ fn rows_at(state: &[u16], count: usize) -> Vec<[u16; 3]> {
     rows.chunks(3).map(|row| [row[0], row[1], row[2]]).collect()
 }
 
-/// One record a line, as the document shows it, into CRLF records.
+/// One record a line, as the outline shows it, into CRLF records.
 pub fn records(lines: &[&str]) -> Vec<u8> {
     lines.iter().flat_map(|line| format!("{line}\r\n").into_bytes()).collect()
 }
