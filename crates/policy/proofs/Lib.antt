@@ -3,3 +3,4 @@ pub mod Parts
 pub mod Joined
 pub mod Rights
 pub mod Places
+pub mod Rows

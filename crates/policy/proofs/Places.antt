@@ -1,4 +1,4 @@
--- The table of places that count, and which numbers a condition may be.
+-- The tables of places that count and of limits; which numbers a condition may be; what is wrong with a number.
 use Prim.Native.Nat.{ℕ, zero, suc, _+_, _*_, _-_, _/_, _≤_, _<_}
 use mathlib.Core.Path.{_≡_, refl, sym, ap, _∙_, subst}
 use mathlib.Core.Bool.{Bool, true, false, _&&_, cond, true≢false}
@@ -6,7 +6,7 @@ use mathlib.Core.Logic.{_⊎_, inl, inr, _≢_}
 use mathlib.Core.List.{List, [], _∷_}
 use native.Mathlib.Omega.{arith}
 use lib.Dec.{T, eqb, ltb}
-use borrow.Author.Tests.{eq-eqb, ne-eqb, lt-ltb, le-ltb}
+use borrow.Author.Tests.{eq-eqb, ne-eqb, eqb-true, lt-ltb, le-ltb}
 use lib.ListN.{length, getD}
 use Rattle.model.specs.Lists.{isZero}
 use Rattle.model.specs.Layout.{kindFrom, policyOf}
@@ -15,7 +15,7 @@ use Rattle.model.specs.Sound.{conditionFits}
 use Rattle.model.proofs.Tests.{is-true, of-true, lt-or-ge, and-left, and-right}
 use Rattle.table.proofs.Entries.{length-entries}
 use Rattle.policy.specs.Lent.{kindsOnly}
-use Rattle.policy.specs.Counting.{Counting}
+use Rattle.policy.specs.Counting.{Counting, Limits}
 
 -- the test passes at each number below n
 abbrev below : (ℕ → Bool) → ℕ → Bool
@@ -56,7 +56,20 @@ counting-is =
       each = λ n j h l. alike (eqb (getD table (n * 8 + j) 0) 1) (ltb j n) (at (agrees n) 8 (of-true (below (agrees n) 8) (at (λ (m : ℕ). below (agrees m) 8) 9 tt n (omega arith))) j l);
     }
 
--- a number that does not fit is not 0, which is a role
+abbrev pairs : List ℕ
+pairs =
+    256 ∷ 1024 ∷ 256 ∷ 1024 ∷ 256 ∷ 1024 ∷ 256 ∷ 1024 ∷ 256 ∷ 1024 ∷ 256 ∷ 1024 ∷ 256 ∷ 1024 ∷ 256 ∷ 1024 ∷ 256 ∷ 1024 ∷ 256 ∷ 1024 ∷ 256 ∷ 1024 ∷ 256 ∷ 1024 ∷ 256 ∷ 1024 ∷ 256 ∷ 1024 ∷ 256 ∷ 1024 ∷ 256 ∷ 1024 ∷ []
+
+pub limits-are : Limits pairs
+limits-are =
+    record {
+      size = refl;
+      role = λ m h. eqb-true (getD pairs (m * 2) 0) 256 (at (λ (k : ℕ). eqb (getD pairs (k * 2) 0) 256) 16 tt m h);
+      privilege = λ m h. eqb-true (getD pairs (m * 2 + 1) 0) 1024 (at (λ (k : ℕ). eqb (getD pairs (k * 2 + 1) 0) 1024) 16 tt m h);
+    }
+
+-- ── which numbers a condition may be ──
+
 module _ (kinds : List ℕ) (few : length kinds / 7 ≤ 128) (c end : ℕ) (ends : end ≡ 256 + length kinds / 7) where
   has-row : ltb (c - 256) (length (kindsOnly kinds .kinds)) ≡ ltb (c - 256) (length kinds / 7)
   unfolding policyOf

@@ -2,18 +2,18 @@
 ghost use mathlib.Core.Path.{_≡_};
 ghost use Prim.Native.Nat.{ℕ, _+_, _/_, _<_, _≤_};
 ghost use mathlib.Core.List.{[]};
-ghost use mathlib.Core.Bool.{false, _&&_, cond};
+ghost use mathlib.Core.Bool.{true, false, _&&_, cond};
 ghost use mathlib.Core.Logic.{_≢_};
 ghost use lib.Dec.{eqb, ltb};
 ghost use lib.ListN.{length, take, drop};
 ghost use Rattle.model.specs.Lists.{all, isZero};
 ghost use Rattle.model.specs.Limits.{roles as mostRoles, mostKinds};
-ghost use Rattle.model.specs.Layout.{policyOf};
+ghost use Rattle.model.specs.Layout.{policyOf, rightFrom};
 ghost use Rattle.model.specs.Conditions.{meant};
 ghost use Rattle.model.specs.Sound.{conditionFits, ruleFits, kindFits, rightFits, soundPolicy};
-ghost use Rattle.table.specs.Entries.{ruleAt, kindAt, without-rights};
+ghost use Rattle.table.specs.Entries.{entries, ruleAt, kindAt, without-rights};
 ghost use Rattle.policy.specs.Lent.{lent, kindsOnly};
-ghost use Rattle.policy.specs.Counting.{Counting};
+ghost use Rattle.policy.specs.Counting.{Counting, Limits, keeps};
 use model::KIND_WIDTH;
 use model::PRIVILEGES;
 use model::RIGHT_WIDTH;
@@ -258,19 +258,92 @@ fn kinds_fit(kinds: &[u16], counting: &[u16]) -> bool
     true
 }
 
-// "role, privilege", each in its range. A number that is not leaves something over, and what is left over is joined.
-fn rights_fit(rights: &[u16]) -> bool
+// The limits of sixteen rights, one after the other.
+fn limits() -> [u16; 32]
+    ensures { λ r. ⌜ Limits r ⌝ }
+{
+    [
+        256,
+        1024,
+        256,
+        1024,
+        256,
+        1024,
+        256,
+        1024,
+        256,
+        1024,
+        256,
+        1024,
+        256,
+        1024,
+        256,
+        1024,
+        256,
+        1024,
+        256,
+        1024,
+        256,
+        1024,
+        256,
+        1024,
+        256,
+        1024,
+        256,
+        1024,
+        256,
+        1024,
+        256,
+        1024,
+    ]
+}
+
+// 0 if the 32 numbers from a place on keep their limits. All are looked at, so that the machine may take several in one step.
+fn over_limits(rights: &[u16], limits: &[u16], from: usize) -> u16
+    requires { ⌜ (from + 32 ≤ length (now rights)) × (length (now limits) ≡ 32) ⌝ }
+    ensures { λ r. ⌜ eqb r 0 ≡ keeps (now (rights .entry)) (now (limits .entry)) from 32 ⌝ }
+{
+    let mut over: u16 = 0;
+    let mut j: usize = 0;
+    while j < 32 {
+        if rights[from + j] >= limits[j] {
+            over = 1;
+        }
+        j += 1;
+    }
+    over
+}
+
+// The rights fit, of which those before a place are known to.
+fn rest_fits(rights: &[u16], from: usize) -> bool
+    requires { ⌜ (from ≤ length (now rights) / 2) × (all rightFits (entries rightFrom 2 (now rights) from) ≡ true) ⌝ }
     ensures { λ r. ⌜ r ≡ all rightFits (policyOf (lent [] [] (now (rights .entry))) .rights) ⌝ }
 {
     let n = rights.len() / RIGHT_WIDTH;
     let mut over: u16 = 0;
-    let mut i: usize = 0;
+    let mut i = from;
     while i < n {
         let right = table::right_at(rights, i);
         over = over | right.role / ROLES | right.privilege / PRIVILEGES;
         i += 1;
     }
     over == 0
+}
+
+// "role, privilege", each in its range. Sixteen rights at a time, and then what is left of them.
+fn rights_fit(rights: &[u16]) -> bool
+    ensures { λ r. ⌜ r ≡ all rightFits (policyOf (lent [] [] (now (rights .entry))) .rights) ⌝ }
+{
+    let limits = limits();
+    let n = rights.len() / RIGHT_WIDTH;
+    let mut i: usize = 0;
+    while i + 16 <= n {
+        if over_limits(rights, &limits, i * RIGHT_WIDTH) != 0 {
+            return false;
+        }
+        i += 16;
+    }
+    rest_fits(rights, i)
 }
 
 // "A length that isn't a whole number of rows, too many rows, or a row not as above makes the policy malformed; any other is sound."

@@ -1,46 +1,83 @@
--- The invariant: what the rights passed leave over is joined, and it is zero exactly if each of them fits.
-use Prim.Native.Nat.{ℕ, _≤_, _-_, _/_}
-use mathlib.Core.Path.{_≡_, refl, ap, _∙_}
+-- The invariant: the rights passed fit.
+use Prim.Native.Nat.{ℕ, _+_, _≤_, _-_, _/_}
+use mathlib.Core.Path.{_≡_, refl, sym, ap, _∙_}
+use mathlib.Core.Bool.{true, false, _&&_}
 use native.Mathlib.Omega.{arith}
-use lib.Dec.{eqb}
 use lib.ListN.{length}
-use Rattle.model.specs.Lists.{all}
-use Rattle.model.specs.Layout.{rightFrom, policyOf}
-use Rattle.model.specs.Sound.{rightFits}
-use Rattle.table.specs.Entries.{entries}
-use Rattle.policy.proofs.Joined.{right-more}
+use borrow.Author.Tests.{eq-eqb, ne-eqb}
+use Rattle.model.specs.Layout.{policyOf}
+use Rattle.policy.proofs.Rows.{firstFit, unfit-stays, fit-sixteen}
 use borrow.Author.Needs.{needs}
 use Rattle.policy.proofs.rights_fit.Statement.{statement}
 use Rattle.policy.proofs.rights_fit.Tie as tie
 
 abbrev Inv-loop : tie.InvT-loop
-Inv-loop rights n over₀ i₀ over i = (i ≤ length rights / 2) × (eqb over 0 ≡ all rightFits (entries rightFrom 2 rights i))
+Inv-loop rights limits n i₀ i = (i ≤ length rights / 2) × (firstFit rights i ≡ true)
 
 abbrev μ-loop : tie.MeasureT-loop
-μ-loop rights n over₀ i₀ over i = length rights / 2 - i
+μ-loop rights limits n i₀ i = length rights / 2 - i
+
+-- src/lib.rt:307:18
+limits-requires : tie.Need-limits-requires Inv-loop μ-loop
+limits-requires c κs = search needs
 
 loop-holds : tie.Need-loop-holds Inv-loop μ-loop
 loop-holds c = (search needs, refl)
 
-right-at-requires : tie.Need-right-at-requires Inv-loop μ-loop
-right-at-requires c κs = search needs
+-- src/lib.rt:310:11
+add-loop : tie.Need-add-loop Inv-loop μ-loop
+add-loop c = search needs
 
-add-i : tie.Need-add-i Inv-loop μ-loop
-add-i c = search needs
+-- src/lib.rt:311:32
+slice-aggregate-over-limits : tie.Need-slice-aggregate-over-limits Inv-loop μ-loop
+slice-aggregate-over-limits c = search needs
 
-loop-less : tie.Need-loop-less Inv-loop μ-loop
-loop-less c = search needs
-
-loop-again : tie.Need-loop-again Inv-loop μ-loop
-loop-again c = (search needs, right-more (c .before .before .before .before .before .before .args .rights .now) (c .before .before .before .before .loop .i) (c .before .before .before .before .loop .over) (c .before .before .right-at .result) (c .before .before .right-at .ensures) (c .before .before .before .before .loop .inv .1))
+-- src/lib.rt:311:41
+mul-over-limits : tie.Need-mul-over-limits Inv-loop μ-loop
+mul-over-limits c = search needs
 
 returns : tie.Need-returns Inv-loop μ-loop
 unfolding policyOf
 returns c =
-    let e : c .before .loop .i ≡ length (c .before .before .before .args .rights .now) / 2 = omega arith in
-    c .before .loop .inv .1 ∙ ap (λ (m : ℕ). all rightFits (entries rightFrom 2 (c .before .before .before .args .rights .now) m)) e
+    let e : c .before .before .before .before .loop .i + 16 + (length (c .before .before .before .before .before .before .before .args .rights .now) / 2 - (c .before .before .before .before .loop .i + 16)) ≡ length (c .before .before .before .before .before .before .before .args .rights .now) / 2 = omega arith in
+    sym (ap (firstFit (c .before .before .before .before .before .before .before .args .rights .now)) (sym e) ∙ unfit-stays (c .before .before .before .before .before .before .before .args .rights .now) (c .before .before .before .before .loop .i + 16) (length (c .before .before .before .before .before .before .before .args .rights .now) / 2 - (c .before .before .before .before .loop .i + 16)) (fit-sixteen (c .before .before .before .before .before .before .before .args .rights .now) (c .before .before .before .before .before .limits .result) (c .before .before .before .before .before .limits .ensures) (c .before .before .before .before .loop .i) ∙ (λ j. c .before .before .before .before .loop .inv .1 j && (sym (c .before .over-limits .ensures) ∙ ne-eqb (c .before .over-limits .result) 0 (c .if1 .taken)) j)))
+
+-- src/lib.rt:314:9
+add-i : tie.Need-add-i Inv-loop μ-loop
+add-i c = search needs
+
+-- src/lib.rt:310:5
+loop-less : tie.Need-loop-less Inv-loop μ-loop
+loop-less c = search needs
+
+loop-again : tie.Need-loop-again Inv-loop μ-loop
+loop-again c = (omega arith, fit-sixteen (c .before .before .before .before .before .before .before .args .rights .now) (c .before .before .before .before .before .limits .result) (c .before .before .before .before .before .limits .ensures) (c .before .before .before .before .loop .i) ∙ (λ j. c .before .before .before .before .loop .inv .1 j && (sym (c .before .over-limits .ensures) ∙ eq-eqb (c .before .over-limits .result) 0 (c .if1 .left)) j))
+
+over-limits-requires : tie.Need-over-limits-requires Inv-loop μ-loop
+over-limits-requires c κs = (omega arith, c .before .before .before .limits .ensures .size)
+
+rest-fits-requires : tie.Need-rest-fits-requires Inv-loop μ-loop
+rest-fits-requires c κs = (c .before .loop .inv .0, c .before .loop .inv .1)
+
+returns-2 : tie.Need-returns-2 Inv-loop μ-loop
+unfolding policyOf
+returns-2 c = c .rest-fits .ensures
 
 pub rights-fit-spec : {M : Type 1} → statement M
 rights-fit-spec =
     tie.close
-    (tie.spec Inv-loop μ-loop loop-holds right-at-requires add-i loop-less loop-again returns)
+    (tie.spec
+    Inv-loop
+    μ-loop
+    limits-requires
+    loop-holds
+    add-loop
+    slice-aggregate-over-limits
+    mul-over-limits
+    over-limits-requires
+    returns
+    add-i
+    loop-less
+    loop-again
+    rest-fits-requires
+    returns-2)
