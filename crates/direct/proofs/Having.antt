@@ -1,10 +1,11 @@
 -- Which roles have the privilege themselves: what code writes right by right is what the model asks of a role.
-use Prim.Native.Nat.{ℕ, zero, suc, _+_, _/_, _≤_, _<_}
-use mathlib.Core.Path.{_≡_, refl, sym, ap, _∙_, subst}
-use mathlib.Core.Bool.{Bool, true, false, _&&_, _||_, and-false, or-true, or-false}
+use Prim.Native.Nat.{ℕ, zero, suc, _+_, _*_, _/_, _≤_, _<_}
+use mathlib.Core.Path.{_≡_, refl, sym, ap, _∙_, subst, subst⁻¹}
+use mathlib.Core.Bool.{Bool, true, false, _&&_, _||_, and-false, or-true, or-false, true≢false}
 use mathlib.Core.Logic.{_⊎_, inl, inr}
 use mathlib.Core.List.{List, [], _∷_}
 use native.Mathlib.Omega.{arith}
+use native.Mathlib.Numerals.{add-one}
 use lib.Dec.{eqb, ltb, ltb→lt}
 use borrow.Author.Tests.{eq-eqb, ne-eqb, eqb-true, eqb-false, lt-ltb, le-ltb}
 use lib.ListN.{length, getD, set, replicate, List·getD-eq-default}
@@ -18,20 +19,12 @@ use Rattle.model.specs.declared.Right.{Right}
 use Rattle.model.specs.declared.Row.{Row}
 use Rattle.model.proofs.Tests.{lt-or-ge, each, all-of, any-append}
 use Rattle.table.specs.Entries.{entry, entries, rightAt}
-use Rattle.table.proofs.Entries.{entries-more, entry-member}
+use Rattle.table.proofs.Entries.{entries-more, entry-member, right-places}
 use Rattle.policy.specs.Lent.{lent}
-use Rattle.direct.specs.Having.{RightsFit, hasRight, Having}
-
--- the right is one of the role to the privilege
-abbrev isRight : ℕ → ℕ → Right → Bool
-isRight x q r = eqb (r .role) q && eqb (r .privilege) x
+use Rattle.direct.specs.Having.{RightsFit, met, isRight, Said, hasRight, Having}
 
 module _ (rights : List ℕ) (x : ℕ) where
-  -- entry q says whether one of the first i rights is role q's to the privilege
-  abbrev pub Said : ℕ → List Bool → Type 0
-  Said i having = (q : ℕ) → getD having q false ≡ any (isRight x q) (entries rightFrom 2 rights i)
-
-  pub said-none : (n : ℕ) → Said 0 (replicate n false)
+  pub said-none : (n : ℕ) → Said rights x 0 (replicate n false)
   said-none zero q = refl
   said-none (suc n) zero = refl
   said-none (suc n) (suc q) = said-none n q
@@ -45,7 +38,7 @@ module _ (rights : List ℕ) (x : ℕ) where
       ∙ ap (λ (r : Right). any (isRight x q) (entries rightFrom 2 rights i) || (isRight x q r || false)) (sym e)
 
   -- to another privilege
-  pub said-other : (i : ℕ) (right : Right) (having : List Bool) → right ≡ rightAt rights i → (right .privilege ≡ x → ⊥) → Said i having → Said (i + 1) having
+  pub said-other : (i : ℕ) (right : Right) (having : List Bool) → right ≡ rightAt rights i → (right .privilege ≡ x → ⊥) → Said rights x i having → Said rights x (i + 1) having
   said-other i right having e n h q =
       h q
       ∙ sym (said-next i q right e
@@ -54,7 +47,7 @@ module _ (rights : List ℕ) (x : ℕ) where
       ∙ or-false (any (isRight x q) (entries rightFrom 2 rights i)))
 
   -- to this one: its role has it
-  pub said-more : (i w : ℕ) (right : Right) (having : List Bool) → right ≡ rightAt rights i → right .privilege ≡ x → w ≡ right .role → w < length having → Said i having → Said (i + 1) (set having w true)
+  pub said-more : (i w : ℕ) (right : Right) (having : List Bool) → right ≡ rightAt rights i → right .privilege ≡ x → w ≡ right .role → w < length having → Said rights x i having → Said rights x (i + 1) (set having w true)
   said-more i w right having e p r l h q = go (eqb (right .role) q) refl
     where
       now-or-before : (b : Bool) → eqb (right .role) q ≡ b → any (isRight x q) (entries rightFrom 2 rights (i + 1)) ≡ (any (isRight x q) (entries rightFrom 2 rights i) || ((b && true) || false))
@@ -70,7 +63,39 @@ module _ (rights : List ℕ) (x : ℕ) where
           ∙ h q
           ∙ sym (now-or-before false z ∙ or-false (any (isRight x q) (entries rightFrom 2 rights i)))
 
-  pub said-all : (i : ℕ) (having : List Bool) → i ≡ length rights / 2 → length having ≡ 256 → Said i having → Having rights x having
+  -- ── several rights at a time ──
+
+  met-next : (from j : ℕ) → met rights x from (j + 1) ≡ (met rights x from j || eqb (getD rights (from + j) 0) x)
+  unfolding met
+  met-next from j = ap (met rights x from) (add-one j)
+
+  pub met-here : (from j : ℕ) → getD rights (from + j) 0 ≡ x → true ≡ met rights x from (j + 1)
+  met-here from j e = sym (met-next from j ∙ ap (λ (b : Bool). met rights x from j || b) (eq-eqb (getD rights (from + j) 0) x e) ∙ or-true (met rights x from j))
+
+  pub met-before : (from j : ℕ) (b : Bool) → (getD rights (from + j) 0 ≡ x → ⊥) → b ≡ met rights x from j → b ≡ met rights x from (j + 1)
+  met-before from j b n e = e ∙ sym (met-next from j ∙ ap (λ (a : Bool). met rights x from j || a) (ne-eqb (getD rights (from + j) 0) x n) ∙ or-false (met rights x from j))
+
+  -- where the privilege is not met, no right is one to it
+  said-so-far : (i m : ℕ) (having : List Bool) → met rights x (i * 2) (m * 2) ≡ false → Said rights x i having → Said rights x (i + m) having
+  unfolding met
+  said-so-far i zero having n h = let at : i + 0 ≡ i = omega arith in subst⁻¹ (λ (k : ℕ). Said rights x k having) at h
+  said-so-far i (suc m) having n h =
+      let two : suc m * 2 ≡ suc (suc (m * 2)) = omega arith in
+      let parts = neither (met rights x (i * 2) (m * 2)) (eqb (getD rights (i * 2 + m * 2) 0) x) (eqb (getD rights (i * 2 + suc (m * 2)) 0) x) (ap (met rights x (i * 2)) (sym two) ∙ n) in
+      let place : i * 2 + suc (m * 2) ≡ (i + m) * 2 + 1 = omega arith in
+      let other : rightAt rights (i + m) .privilege ≡ x → ⊥ = λ e. eqb-false (getD rights (i * 2 + suc (m * 2)) 0) x (parts .1) (ap (λ (k : ℕ). getD rights k 0) place ∙ ap (λ (r : Right). r .privilege) (sym (right-places rights (i + m))) ∙ e) in
+      let at : i + suc m ≡ i + m + 1 = omega arith in
+      subst⁻¹ (λ (k : ℕ). Said rights x k having) at (said-other (i + m) (rightAt rights (i + m)) having refl other (said-so-far i m having (parts .0) h))
+    where
+      neither : (a b c : Bool) → ((a || b) || c) ≡ false → (a ≡ false) × (c ≡ false)
+      neither true b c e = absurd (true≢false e)
+      neither false true c e = absurd (true≢false e)
+      neither false false c e = (refl, e)
+
+  pub said-sixteen : (i : ℕ) (having : List Bool) → met rights x (i * 2) 32 ≡ false → Said rights x i having → Said rights x (i + 16) having
+  said-sixteen i having n h = said-so-far i 16 having n h
+
+  pub said-all : (i : ℕ) (having : List Bool) → i ≡ length rights / 2 → length having ≡ 256 → Said rights x i having → Having rights x having
   unfolding Having hasRight direct policyOf
   said-all i having e size h q = go (lt-or-ge q 256) ∙ h q ∙ ap (λ (n : ℕ). any (isRight x q) (entries rightFrom 2 rights n)) e
     where

@@ -2,16 +2,62 @@
 ghost use mathlib.Core.Path.{_≡_};
 ghost use mathlib.Core.Bool.{_&&_};
 ghost use mathlib.Core.List.{[]};
+ghost use Prim.Native.Nat.{_+_, _/_, _≤_};
 ghost use lib.Dec.{eqb};
+ghost use lib.ListN.{length};
+ghost use Rattle.model.specs.Limits.{roles};
 ghost use Rattle.model.specs.Layout.{decode, policyOf};
 ghost use Rattle.model.specs.Calls.{allowed};
 ghost use Rattle.table.specs.Entries.{Sized};
 ghost use Rattle.policy.specs.Lent.{lent};
-ghost use Rattle.direct.specs.Having.{RightsFit, hasRight, Having};
+ghost use Rattle.direct.specs.Having.{RightsFit, met, Said, hasRight, Having};
 use model::RIGHT_WIDTH;
 use model::ROLES;
 use model::ROW_COUNT;
 use model::Row;
+
+// The privilege is among the 32 numbers from a place on. All are looked at, so that the machine may take several in one step; a role of
+// that number is met too, and then the rights are read in vain.
+fn is_met(rights: &[u16], from: usize, privilege: u16) -> bool
+    requires { ⌜ from + 32 ≤ length (now rights) ⌝ }
+    ensures { λ r. ⌜ r ≡ met (now (rights .entry)) privilege from 32 ⌝ }
+{
+    let mut found: u16 = 0;
+    let mut j: usize = 0;
+    while j < 32 {
+        if rights[from + j] == privilege {
+            found = 1;
+        }
+        j += 1;
+    }
+    found == 1
+}
+
+// The roles that have the privilege by the rights of some places are noted beside those that have it by the rights before.
+fn note(rights: &[u16], privilege: u16, from: usize, to: usize, having: &mut [bool])
+    requires { ⌜ RightsFit (now rights) × (from ≤ to) × (to ≤ length (now rights) / 2) × (length (now having) ≡ roles) × Said (now rights) privilege from (now having) ⌝ }
+    ensures { λ r. ⌜ Said (now (rights .entry)) privilege to (now (having .exit)) ⌝ }
+{
+    let mut i = from;
+    while i < to {
+        let right = table::right_at(rights, i);
+        i += 1;
+        if right.privilege == privilege {
+            having[table::wide(right.role)] = true;
+        }
+    }
+}
+
+// The same for sixteen rights: they are read one by one only where the privilege is met among their numbers.
+fn note_sixteen(rights: &[u16], privilege: u16, from: usize, having: &mut [bool])
+    requires { ⌜ RightsFit (now rights) × (from + 16 ≤ length (now rights) / 2) × (length (now having) ≡ roles) × Said (now rights) privilege from (now having) ⌝ }
+    ensures { λ r. ⌜ Said (now (rights .entry)) privilege (from + 16) (now (having .exit)) ⌝ }
+{
+    if !is_met(rights, from * RIGHT_WIDTH, privilege) {
+        return;
+    }
+    note(rights, privilege, from, from + 16, having);
+}
 
 // Which roles have the privilege themselves: one pass over the rights serves all the rows that are asked afterwards.
 pub fn roles_having(rights: &[u16], privilege: u16) -> [bool; 256]
@@ -21,13 +67,11 @@ pub fn roles_having(rights: &[u16], privilege: u16) -> [bool; 256]
     let mut having = [false; 256];
     let n = rights.len() / RIGHT_WIDTH;
     let mut i: usize = 0;
-    while i < n {
-        let right = table::right_at(rights, i);
-        i += 1;
-        if right.privilege == privilege {
-            having[table::wide(right.role)] = true;
-        }
+    while i + 16 <= n {
+        note_sixteen(rights, privilege, i, &mut having);
+        i += 16;
     }
+    note(rights, privilege, i, n, &mut having);
     having
 }
 

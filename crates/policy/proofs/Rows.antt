@@ -11,7 +11,6 @@ use lib.ListN.{getD}
 use Rattle.model.specs.Lists.{all}
 use Rattle.model.specs.Layout.{rightFrom}
 use Rattle.model.specs.Sound.{rightClauses, rightFits}
-use Rattle.model.specs.declared.Right.{Right}
 use Rattle.model.proofs.Tests.{all-append}
 use Rattle.table.specs.Entries.{entries, entry, rightAt}
 use Rattle.table.proofs.Entries.{entries-more, right-places}

@@ -1,5 +1,4 @@
 use Rattle.policy.proofs.Places.{limits-are}
-use borrow.Author.Needs.{needs}
 use Rattle.policy.proofs.limits.Statement.{statement}
 use Rattle.policy.proofs.limits.Tie as tie
 

@@ -1,7 +1,7 @@
 -- The invariant: the rights passed fit.
-use Prim.Native.Nat.{ℕ, _+_, _≤_, _-_, _/_}
+use Prim.Native.Nat.{_+_, _≤_, _-_, _/_}
 use mathlib.Core.Path.{_≡_, refl, sym, ap, _∙_}
-use mathlib.Core.Bool.{true, false, _&&_}
+use mathlib.Core.Bool.{true, _&&_}
 use native.Mathlib.Omega.{arith}
 use lib.ListN.{length}
 use borrow.Author.Tests.{eq-eqb, ne-eqb}
