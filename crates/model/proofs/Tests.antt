@@ -211,3 +211,18 @@ module _ {A : Type 0} where
       go later (inl e) =
           ([], ys, ap (λ (z : A). z ∷ ys) (sym e), subst⁻¹ (λ (l : List A). T (test l x)) (append-nil earlier) (subst⁻¹ (λ (z : A). T (test earlier z)) e (and-left (test earlier y) (allOverEarlier test (earlier ++ (y ∷ [])) ys) t)))
       go later (inr h) = deeper (later h)
+
+-- ── a test that is computed over all numbers below a limit ──
+
+-- the test passes at each number below n
+abbrev pub below : (ℕ → Bool) → ℕ → Bool
+below test zero = true
+below test (suc n) = below test n && test n
+
+pub below-at : (test : ℕ → Bool) (n : ℕ) → T (below test n) → (k : ℕ) → k < n → test k ≡ true
+below-at test zero t k h = absurd (omega arith)
+below-at test (suc n) t k h = go (lt-or-ge k n) (below-at test n (and-left (below test n) (test n) t) k)
+  where
+    go : (k < n) ⊎ (n ≤ k) → (k < n → test k ≡ true) → test k ≡ true
+    go (inl l) earlier = earlier l
+    go (inr l) earlier = let e : n ≡ k = omega arith in subst (λ (m : ℕ). test m ≡ true) e (is-true (test n) (and-right (below test n) (test n) t))

@@ -1,7 +1,7 @@
 -- Numbers joined bit by bit: what is joined is zero exactly if each number is.
 use Prim.Native.Nat.{ℕ, zero, suc, _+_, _/_, _≤_, _<_}
 use mathlib.Core.Path.{_≡_, refl, sym, ap, _∙_}
-use mathlib.Core.Bool.{Bool, true, false, false≢true, _&&_, cond}
+use mathlib.Core.Bool.{Bool, true, false, false≢true, _&&_, cond, and-true}
 use mathlib.Core.Logic.{_⊎_, inl, inr}
 use mathlib.Core.List.{List, [], _∷_, _++_}
 use native.Mathlib.Omega.{arith}
@@ -19,7 +19,7 @@ use Rattle.model.specs.declared.Right.{Right}
 use Rattle.model.proofs.Tests.{all-append, lt-or-ge}
 use Rattle.table.specs.Entries.{entries, entry, rightAt}
 use Rattle.table.proofs.Entries.{entries-more}
-use Rattle.policy.proofs.Clauses.{and-true, Fails, here, later}
+use Rattle.policy.proofs.Clauses.{Fails, here, later}
 
 pub join-zero : (a b : ℕ) → eqb (bitOr a b) 0 ≡ (eqb a 0 && eqb b 0)
 join-zero zero zero = refl

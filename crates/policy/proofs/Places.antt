@@ -1,34 +1,21 @@
 -- The tables of places that count and of limits; which numbers a condition may be; what is wrong with a number.
-use Prim.Native.Nat.{ℕ, zero, suc, _+_, _*_, _-_, _/_, _≤_, _<_}
-use mathlib.Core.Path.{_≡_, refl, sym, ap, _∙_, subst}
-use mathlib.Core.Bool.{Bool, true, false, _&&_, cond, true≢false}
+use Prim.Native.Nat.{ℕ, zero, _+_, _*_, _-_, _/_, _≤_, _<_}
+use mathlib.Core.Path.{_≡_, refl, sym, ap, _∙_}
+use mathlib.Core.Bool.{Bool, true, false, cond, true≢false}
 use mathlib.Core.Logic.{_⊎_, inl, inr, _≢_}
 use mathlib.Core.List.{List, [], _∷_}
 use native.Mathlib.Omega.{arith}
-use lib.Dec.{T, eqb, ltb}
+use lib.Dec.{eqb, ltb}
 use borrow.Author.Tests.{eq-eqb, ne-eqb, eqb-true, lt-ltb, le-ltb}
 use lib.ListN.{length, getD}
 use Rattle.model.specs.Lists.{isZero}
 use Rattle.model.specs.Layout.{kindFrom, policyOf}
 use Rattle.model.specs.Conditions.{meant}
 use Rattle.model.specs.Sound.{conditionFits}
-use Rattle.model.proofs.Tests.{is-true, of-true, lt-or-ge, and-left, and-right}
+use Rattle.model.proofs.Tests.{below, below-at, of-true, lt-or-ge}
 use Rattle.table.proofs.Entries.{length-entries}
 use Rattle.policy.specs.Lent.{kindsOnly}
 use Rattle.policy.specs.Counting.{Counting, Limits}
-
--- the test passes at each number below n
-abbrev below : (ℕ → Bool) → ℕ → Bool
-below test zero = true
-below test (suc n) = below test n && test n
-
-at : (test : ℕ → Bool) (n : ℕ) → T (below test n) → (k : ℕ) → k < n → test k ≡ true
-at test zero t k h = absurd (omega arith)
-at test (suc n) t k h = go (lt-or-ge k n) (at test n (and-left (below test n) (test n) t) k)
-  where
-    go : (k < n) ⊎ (n ≤ k) → (k < n → test k ≡ true) → test k ≡ true
-    go (inl l) earlier = earlier l
-    go (inr l) earlier = let e : n ≡ k = omega arith in subst (λ (m : ℕ). test m ≡ true) e (is-true (test n) (and-right (below test n) (test n) t))
 
 -- both or neither
 abbrev same : Bool → Bool → Bool
@@ -53,7 +40,7 @@ pub counting-is : Counting table
 counting-is =
     record {
       size = refl;
-      each = λ n j h l. alike (eqb (getD table (n * 8 + j) 0) 1) (ltb j n) (at (agrees n) 8 (of-true (below (agrees n) 8) (at (λ (m : ℕ). below (agrees m) 8) 9 tt n (omega arith))) j l);
+      each = λ n j h l. alike (eqb (getD table (n * 8 + j) 0) 1) (ltb j n) (below-at (agrees n) 8 (of-true (below (agrees n) 8) (below-at (λ (m : ℕ). below (agrees m) 8) 9 tt n (omega arith))) j l);
     }
 
 abbrev pairs : List ℕ
@@ -64,8 +51,8 @@ pub limits-are : Limits pairs
 limits-are =
     record {
       size = refl;
-      role = λ m h. eqb-true (getD pairs (m * 2) 0) 256 (at (λ (k : ℕ). eqb (getD pairs (k * 2) 0) 256) 16 tt m h);
-      privilege = λ m h. eqb-true (getD pairs (m * 2 + 1) 0) 1024 (at (λ (k : ℕ). eqb (getD pairs (k * 2 + 1) 0) 1024) 16 tt m h);
+      role = λ m h. eqb-true (getD pairs (m * 2) 0) 256 (below-at (λ (k : ℕ). eqb (getD pairs (k * 2) 0) 256) 16 tt m h);
+      privilege = λ m h. eqb-true (getD pairs (m * 2 + 1) 0) 1024 (below-at (λ (k : ℕ). eqb (getD pairs (k * 2 + 1) 0) 1024) 16 tt m h);
     }
 
 -- ── which numbers a condition may be ──

@@ -1,5 +1,5 @@
--- The program's own cases as one table under one statement, which holds by computation: the session of the document, and small
--- texts at the edges of the format. The wanted outputs are worked out from the document.
+-- The program's own cases as one table under one statement, which holds by computation: the session of the outline, and small
+-- texts at the edges of the format. The wanted outputs are worked out from the outline.
 use mathlib.Core.Path.{_≡_, refl}
 use mathlib.Core.Bool.{Bool, true, false, not}
 use mathlib.Core.List.{List, [], _∷_, _++_}

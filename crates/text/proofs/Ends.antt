@@ -1,5 +1,5 @@
 -- The laws by which the scans for an end are proved: a byte passed, a byte found, the text's end. And that they cut a text as the
--- document does: a record and the records behind it, a field and the fields behind it.
+-- outline does: a record and the records behind it, a field and the fields behind it.
 use Prim.Native.Nat.{ℕ, suc, _+_, _-_, _<_, _≤_}
 use mathlib.Core.Path.{_≡_, refl, sym, ap, _∙_}
 use mathlib.Core.Bool.{Bool, true, false, _&&_, cond}

@@ -257,11 +257,3 @@ pub fn line_of(bytes: &[u8]) -> Line
     }
     line_behind(bytes, word, end)
 }
-
-// What the record between two places of a text says.
-pub fn line_at(text: &[u8], from: usize, to: usize) -> Line
-    requires { ⌜ Within (now text) from to ⌝ }
-    ensures { λ r. ⌜ r ≡ lineOf (part (now (text .entry)) from to) ⌝ }
-{
-    line_of(&text[from..to])
-}

@@ -1,6 +1,6 @@
 use Prim.Native.Nat.{ℕ}
 use mathlib.Core.Path.{_≡_, refl, sym, _∙_}
-use mathlib.Core.Bool.{Bool, _&&_}
+use mathlib.Core.Bool.{Bool, _&&_, and-true}
 use mathlib.Core.List.{List, [], _∷_}
 use borrow.Author.Tests.{not-true, not-false}
 use Rattle.model.specs.Lists.{every, allOverEarlier}
@@ -8,7 +8,7 @@ use Rattle.model.specs.Layout.{decode, policyOf}
 use Rattle.model.specs.Sound.{wellFormed, certificateSound, rowSound, soundRecords, sound}
 use Rattle.table.specs.Entries.{without-rights, worldAt}
 use Rattle.policy.specs.Lent.{kindsOnly}
-use Rattle.policy.proofs.Clauses.{and-true, here, later, fails, passes}
+use Rattle.policy.proofs.Clauses.{here, later, fails, passes}
 use Rattle.sound.proofs.Parts.{sized}
 use Rattle.sound.proofs.Ranges.{certificates-range, few-kinds}
 use Rattle.sound.proofs.Rights.{certificates-same}
