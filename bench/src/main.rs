@@ -8,6 +8,7 @@ mod cases;
 mod indexed;
 mod place;
 mod plain;
+mod process;
 mod programs;
 mod scene;
 mod table;
@@ -18,15 +19,14 @@ use table::{Head, Line};
 /// The machine is not always equally quick, so every case is measured in several passes over all of them.
 const PASSES: usize = 8;
 
-const CALLS: Head = Head { title: "Public calls", note: "", unit: "µs", others: &["plain", "indexed"] };
+const CALLS: Head = Head { title: "Public calls", note: "", columns: &["ours, µs", "plain, µs", "ratio", "indexed, µs", "ratio"] };
 const EVENTS: Head = Head {
     title: "The program's events",
-    note: "An event includes reading its record and writing its answer, which plain unjudged does not: so the first ratio is an upper \
-           bound of what the inner call costs beside it.",
-    unit: "µs",
-    others: &["plain unjudged", "second"],
+    note: "Record is the event's twin, refused with 3; ours call is event less record, and the first ratio is its own to plain unjudged. \
+           The last ratio is that of the event.",
+    columns: &["ours event, µs", "record, µs", "ours call, µs", "plain unjudged, µs", "ratio", "second, µs", "ratio"],
 };
-const TEXTS: Head = Head { title: "Whole texts through the program", note: "", unit: "ms", others: &["second"] };
+const TEXTS: Head = Head { title: "Whole texts through the program", note: "", columns: &["ours, ms", "second, ms", "ratio"] };
 
 type Tables = Vec<(Head, Vec<Line>)>;
 
@@ -39,7 +39,7 @@ fn measured(programs: &[String]) -> Result<Tables, String> {
     let mut cases = cases::all()?.into_iter().map(case::Measured::judged).collect::<Result<Vec<_>, _>>()?;
     let mut sessions = if programs.is_some() { programs::all()? } else { Vec::new() };
     if let Some(programs) = programs {
-        sessions.iter().try_for_each(|session| session.agree(programs))?;
+        sessions.iter_mut().try_for_each(|session| session.agree(programs))?;
     }
     for _ in 0..PASSES {
         cases.iter_mut().for_each(case::Measured::pass);

@@ -1,50 +1,36 @@
 //! The texts that keep the program busiest: after a policy and a state as large as may be, as many events as fit, each of the dearest.
 
 use crate::call::Call::{self, *};
-use crate::programs::{run, with_events};
+use crate::process::{room, Input, Programs, OURS, SECOND};
 use crate::scene::Scene;
-use crate::table::Line;
-use std::time::Duration;
+use crate::table::{beside, Cell, Line};
 
 /// A text is run so often by each program; the best run counts.
 const RUNS: usize = 3;
 
-/// A state, the calls that are repeated on it, and what each of them answers.
+/// A text, and how many events it ends in.
 struct Busy {
     what: &'static str,
-    scene: Scene,
-    calls: Vec<Call>,
-    answer: &'static str,
+    events: usize,
+    input: Input,
 }
 
 impl Busy {
-    /// Both programs, in turns: what they write must be the same, and in the end the wanted answer for each repeated call.
-    fn line(&self, programs: [&str; 2]) -> Result<Line, String> {
-        let (text, times) = with_events(&self.scene, &self.calls);
-        let events = times * self.calls.len();
-        let wanted = self.answer.repeat(events).into_bytes();
-        let mut best = [Duration::MAX; 2];
-        for turn in 0..RUNS * best.len() {
-            let side = turn % best.len();
-            let (time, written) = run(programs[side], &text)?;
-            if !written.ends_with(&wanted) || written.len() != self.before() + wanted.len() {
-                return Err(format!("{}: {} does not answer {} to each event", self.what, programs[side], self.answer.trim_end()));
-            }
-            best[side] = time.min(best[side]);
-        }
-        let [ours, second] = best.map(|time| time.as_secs_f64() * 1e3);
-        let tables = format!("{events} events, {} bytes", text.len());
-        Ok(Line { what: self.what.into(), tables, ours, others: vec![Some(second)] })
+    /// The calls again and again on a state, each with its answer.
+    fn new(what: &'static str, scene: &Scene, calls: &[(Call, u16, u16)]) -> Busy {
+        let times = room(scene, calls);
+        Busy { what, events: times * calls.len(), input: Input::of_events(scene, calls, times) }
     }
 
-    /// How many bytes the answers to the story have: each is accepted, an activation with its rule.
-    fn before(&self) -> usize {
-        let rule_of = |role: u16| self.scene.rules.chunks_exact(11).position(|rule| rule[0] == role).unwrap_or(0);
-        let length = |call: &Call| match *call {
-            Activate(_, role) => format!("0,{}\r\n", rule_of(role)).len(),
-            _ => "0,0\r\n".len(),
-        };
-        self.scene.story.iter().map(length).sum()
+    /// Both programs, in turns.
+    fn line(mut self, programs: Programs) -> Result<Line, String> {
+        for turn in 0..RUNS * programs.len() {
+            self.input.run(programs, turn % programs.len()).map_err(|why| format!("{}: {why}", self.what))?;
+        }
+        let [ours, second] = [OURS, SECOND].map(|side| self.input.best(side) / 1e3);
+        let tables = format!("{} events, {} bytes", self.events, self.input.text.len());
+        let cells = [Cell::Time(ours)].into_iter().chain(beside(ours, second)).collect();
+        Ok(Line { what: self.what.into(), tables, cells })
     }
 }
 
@@ -125,28 +111,25 @@ fn many_rights(first: u16) -> Result<Scene, String> {
 }
 
 fn all() -> Result<Vec<Busy>, String> {
-    const NOTHING: &str = "0,0\r\n";
-    const UNSATISFIED: &str = "5,0\r\n";
-    let busy = |what, scene: Result<Scene, String>, calls: &[Call], answer| {
-        scene.map(|scene| Busy { what, scene, calls: calls.to_vec(), answer })
-    };
-    let facts = [Environment(0, 0), Environment(0, 1)];
-    let papers = [Withdraw(0, 127, 0), Appoint(0, 0, 127)];
+    let busy = |what, scene: Result<Scene, String>, calls: &[(Call, u16, u16)]| scene.map(|scene| Busy::new(what, &scene, calls));
+    let facts = [(Environment(0, 0), 0, 0), (Environment(0, 1), 0, 0)];
+    let papers = [(Withdraw(0, 127, 0), 0, 0), (Appoint(0, 0, 127), 0, 0)];
+    let unsatisfied = [(Activate(0, 0), 5, 0)];
     [
-        busy("env: 256 rows on eight roles", on_eight_roles(), &facts, NOTHING),
-        busy("env: 256 rows on eight kinds of four", on_eight_kinds_of_four(), &facts, NOTHING),
-        busy("withdraw, appoint: rows on eight kinds", on_eight_kinds(), &papers, NOTHING),
-        busy("activate, refused: 512 rules on facts", rules_on_facts(), &[Activate(0, 0)], UNSATISFIED),
-        busy("activate, refused: 257 rules on roles", rules_on_roles(), &[Activate(0, 0)], UNSATISFIED),
-        busy("activate, refused: 508 rules on kinds", rules_on_kinds(), &[Activate(0, 0)], UNSATISFIED),
-        busy("invoke, none: 256 roles, 2,048 rights", many_rights(0), &[Invoke(0, 1)], NOTHING),
-        busy("invoke, none: all rights of another role", many_rights(1), &[Invoke(0, 0)], NOTHING),
+        busy("env: 256 rows on eight roles", on_eight_roles(), &facts),
+        busy("env: 256 rows on eight kinds of four", on_eight_kinds_of_four(), &facts),
+        busy("withdraw, appoint: rows on eight kinds", on_eight_kinds(), &papers),
+        busy("activate, refused: 512 rules on facts", rules_on_facts(), &unsatisfied),
+        busy("activate, refused: 257 rules on roles", rules_on_roles(), &unsatisfied),
+        busy("activate, refused: 508 rules on kinds", rules_on_kinds(), &unsatisfied),
+        busy("invoke, none: 256 roles, 2,048 rights", many_rights(0), &[(Invoke(0, 1), 0, 0)]),
+        busy("invoke, none: all rights of another role", many_rights(1), &[(Invoke(0, 0), 0, 0)]),
     ]
     .into_iter()
     .collect()
 }
 
 /// What each text costs, in the order of the table.
-pub fn lines(programs: [&str; 2]) -> Result<Vec<Line>, String> {
-    all()?.iter().map(|busy| busy.line(programs)).collect()
+pub fn lines(programs: Programs) -> Result<Vec<Line>, String> {
+    all()?.into_iter().map(|busy| busy.line(programs)).collect()
 }
