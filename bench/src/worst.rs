@@ -6,11 +6,8 @@ use crate::process::{room, Input, Programs, OURS, SECOND};
 use crate::scene::Scene;
 use crate::table::{beside, Cell, Line};
 
-/// A text is run so often by each program; the best run counts.
-const RUNS: usize = 5;
-
 /// A text, and how many events it ends in.
-struct Busy {
+pub struct Busy {
     what: &'static str,
     events: usize,
     input: Input,
@@ -23,15 +20,16 @@ impl Busy {
         Busy { what, events: times * calls.len(), input: Input::of_events(scene, calls, times) }
     }
 
-    /// Both programs, in turns.
-    fn line(mut self, programs: Programs) -> Result<Line, String> {
-        for turn in 0..RUNS * programs.len() {
-            self.input.run(programs, turn % programs.len()).map_err(|why| format!("{}: {why}", self.what))?;
-        }
+    /// One run of each program; the best run of all passes counts.
+    pub fn pass(&mut self, programs: Programs) -> Result<(), String> {
+        [OURS, SECOND].into_iter().try_for_each(|side| self.input.run(programs, side)).map_err(|why| format!("{}: {why}", self.what))
+    }
+
+    pub fn line(&self) -> Line {
         let [ours, second] = [OURS, SECOND].map(|side| self.input.best(side) / 1e3);
         let tables = format!("{} events, {} bytes", self.events, self.input.text.len());
         let cells = [Cell::Time(ours)].into_iter().chain(beside(ours, second)).collect();
-        Ok(Line { what: self.what.into(), tables, cells })
+        Line { what: self.what.into(), tables, cells }
     }
 }
 
@@ -195,8 +193,7 @@ fn on_tables() -> Result<Vec<Busy>, String> {
     ])
 }
 
-/// What each text costs, in the order of the table.
-pub fn lines(programs: Programs) -> Result<Vec<Line>, String> {
-    let texts = on_rows()?.into_iter().chain(on_tables()?).chain([quoted_policy(), bad_at_the_end()]);
-    texts.map(|busy| busy.line(programs)).collect()
+/// Every text, in the order of the table.
+pub fn all() -> Result<Vec<Busy>, String> {
+    Ok(on_rows()?.into_iter().chain(on_tables()?).chain([quoted_policy(), bad_at_the_end()]).collect())
 }
