@@ -7,7 +7,7 @@ use crate::scene::{Scene, FULL, LATE_USER, NO_PRIVILEGE};
 use crate::table::{beside, Cell, Line};
 
 /// In a pass each program runs the texts of a session in turns for about so long, in microseconds, and at least so often.
-const PASS: f64 = 200_000.0;
+const PASS: f64 = 500_000.0;
 const RUNS: usize = 3;
 
 /// A session whose cost is measured beside that of the session without what is measured, and shared out over so many times.
