@@ -1,7 +1,7 @@
 #!/usr/bin/env bash
-# run.sh [--table] [NAME...]
+# run.sh [--list | --table] [NAME...]
 #
-# Builds the second implementation once for each fault of list.txt, or for each one named, and looks for the sessions that catch it.
+# Builds the second implementation once for each fault of list/*.txt, or for each one named, and looks for the sessions that catch it.
 # Where none does, the comparison (compare/) is built with the faulty implementation and must meet a mismatch with the engine in its
 # random calls; the tests of the second implementation are run as well. One line for each fault says what caught it. A fault that
 # neither a session nor a random run catches, or that cannot be put in place or built, has failed. The last line is
@@ -9,7 +9,7 @@
 #
 # BORDER_LIB is the folder of libborder.a, the engine's archive: bin/ship FOLDER makes it.
 #
-# --table writes docs/FAULTY-BUILDS.md as well, if every fault is caught.
+# --table writes docs/FAULTY-BUILDS.md as well, if every fault is caught. --list only says the names of the faults, in their order.
 #
 # Only copies in a temporary folder are changed. A session may take 20 seconds (LIMIT=n for n seconds). All of it is run with nice.
 
@@ -24,11 +24,13 @@ export LIMIT=${LIMIT:-20}
 share=10
 
 table=no
+list=no
 wanted=()
 for argument in "$@"; do
     case $argument in
     --table) table=yes ;;
-    -*) echo "usage: run.sh [--table] [NAME...]" >&2 && exit 2 ;;
+    --list) list=yes ;;
+    -*) echo "usage: run.sh [--list | --table] [NAME...]" >&2 && exit 2 ;;
     *) wanted+=("$argument") ;;
     esac
 done
@@ -37,48 +39,42 @@ if [ "$table" = yes ] && [ ${#wanted[@]} -gt 0 ]; then
     exit 2
 fi
 
-if [ ! -f "${BORDER_LIB:-}/libborder.a" ]; then
-    echo "run.sh: BORDER_LIB is ${BORDER_LIB:-not set}: it must be the folder of libborder.a, the engine's archive" >&2
-    echo "run.sh: bin/ship FOLDER makes it; then BORDER_LIB=FOLDER faults/run.sh" >&2
-    exit 2
-fi
-BORDER_LIB=$(cd -- "$BORDER_LIB" && pwd) || exit 2
-export BORDER_LIB
-renice -n 10 -p $$ >/dev/null 2>&1
-
 # --- The list: groups, names, rules, files, old and new are arrays with one entry for each fault.
 
 groups=() names=() rules=() files=() old=() new=()
 
 read_list() {
-    local line group='' last=-1 number=0
-    while IFS= read -r line; do
-        number=$((number + 1))
-        case $line in
-        '' | '#'*) ;;
-        '== '*) group=${line#== } ;;
-        'fault '*)
-            last=$((last + 1))
-            groups[last]=$group names[last]=${line#fault } rules[last]='' files[last]='' old[last]='' new[last]=''
-            ;;
-        'rule '*) rules[last]=${line#rule } ;;
-        'file '*) files[last]=${line#file } ;;
-        '-'*) old[last]+=${line#-}$'\n' ;;
-        '+'*) new[last]+=${line#+}$'\n' ;;
-        ' '*) old[last]+=${line# }$'\n' new[last]+=${line# }$'\n' ;;
-        *) echo "list.txt, line $number: $line" >&2 && return 1 ;;
-        esac
-    done <"$here/list.txt"
+    local file line group number last=-1
+    for file in "$here"/list/*.txt; do
+        group='' number=0
+        while IFS= read -r line; do
+            number=$((number + 1))
+            case $line in
+            '' | '#'*) ;;
+            '== '*) group=${line#== } ;;
+            'fault '*)
+                last=$((last + 1))
+                groups[last]=$group names[last]=${line#fault } rules[last]='' files[last]='' old[last]='' new[last]=''
+                ;;
+            'rule '*) rules[last]=${line#rule } ;;
+            'file '*) files[last]=${line#file } ;;
+            '-'*) old[last]+=${line#-}$'\n' ;;
+            '+'*) new[last]+=${line#+}$'\n' ;;
+            ' '*) old[last]+=${line# }$'\n' new[last]+=${line# }$'\n' ;;
+            *) echo "list/${file##*/}, line $number: $line" >&2 && return 1 ;;
+            esac
+        done <"$file" || return 1
+    done
 }
 
 # Every name once, every fault complete; every wanted name known.
 check_list() {
     local i name twice
     twice=$(printf '%s\n' "${names[@]}" | sort | uniq -d)
-    [ -z "$twice" ] || { echo "list.txt: twice:" $twice >&2 && return 1; }
+    [ -z "$twice" ] || { echo "list/: twice:" $twice >&2 && return 1; }
     for i in "${!names[@]}"; do
         if [ -z "${rules[i]}" ] || [ -z "${files[i]}" ] || [ -z "${old[i]}" ] || [ "${old[i]}" = "${new[i]}" ]; then
-            echo "list.txt: ${names[i]} is not complete" >&2
+            echo "list/: ${names[i]} is not complete" >&2
             return 1
         fi
     done
@@ -95,6 +91,21 @@ is_one_of() { # WORD WORD..
     done
     return 1
 }
+
+read_list && check_list || exit 2
+if [ "$list" = yes ]; then
+    printf '%s\n' "${names[@]}"
+    exit 0
+fi
+
+if [ ! -f "${BORDER_LIB:-}/libborder.a" ]; then
+    echo "run.sh: BORDER_LIB is ${BORDER_LIB:-not set}: it must be the folder of libborder.a, the engine's archive" >&2
+    echo "run.sh: bin/ship FOLDER makes it; then BORDER_LIB=FOLDER faults/run.sh" >&2
+    exit 2
+fi
+BORDER_LIB=$(cd -- "$BORDER_LIB" && pwd) || exit 2
+export BORDER_LIB
+renice -n 10 -p $$ >/dev/null 2>&1
 
 # --- One build. The target folder is shared, and the copy always has the same path: only what a fault changes is compiled again.
 
@@ -264,7 +275,7 @@ write_page() {
 # Faulty builds
 
 What would happen if a rule were broken? Each row below is a build of the second implementation (\`second/\`) with one change in one
-place, and the rule that it breaks; \`faults/list.txt\` has the changed lines. Every such build is caught: $by_sessions of ${#names[@]} by a session
+place, and the rule that it breaks; \`faults/list/\` has the changed lines. Every such build is caught: $by_sessions of ${#names[@]} by a session
 (\`sessions/\`), through the program alone, and $by_random by a random run (\`compare/\`), which gives the same calls to the build and to the
 proved engine and stops where they differ. Those $by_random the program cannot show: it begins with a fresh state and tables of whole rows,
 it has no chain query, and no answer tells where a certificate stands.
@@ -291,7 +302,6 @@ END
     done
 }
 
-read_list && check_list || exit 2
 if ! try_unchanged; then
     echo "the second implementation fails without any fault"
     echo "0 passed, 1 failed"

@@ -104,4 +104,23 @@ impl Call {
             Call::Effective(user, role, privilege) => format!("effective,{user},{role},{privilege}\r\n"),
         }
     }
+
+    /// The same call with one number out of its range, which is refused with 3. Its record is as long wherever the number that goes has
+    /// as many digits: four for a user, two for a fact.
+    pub fn out_of_range(self) -> Call {
+        const NO_USER: u16 = 4096;
+        const NO_FACT: u16 = 64;
+        const NO_PRIVILEGE: u16 = 1024;
+        match self {
+            Call::Fresh | Call::Chain(..) => panic!("no record of the program makes this call"),
+            Call::Activate(_, role) => Call::Activate(NO_USER, role),
+            Call::Appoint(_, appointee, kind) => Call::Appoint(NO_USER, appointee, kind),
+            Call::Revoke(_, appointee, kind, appointer) => Call::Revoke(NO_USER, appointee, kind, appointer),
+            Call::Withdraw(_, kind, appointer) => Call::Withdraw(NO_USER, kind, appointer),
+            Call::Environment(_, value) => Call::Environment(NO_FACT, value),
+            Call::Logout(_) => Call::Logout(NO_USER),
+            Call::Invoke(user, _) => Call::Invoke(user, NO_PRIVILEGE),
+            Call::Effective(user, role, _) => Call::Effective(user, role, NO_PRIVILEGE),
+        }
+    }
 }

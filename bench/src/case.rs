@@ -2,7 +2,7 @@
 
 use crate::call::{unjudged, Call, Side, SIDES};
 use crate::scene::Scene;
-use crate::table::Line;
+use crate::table::{beside, Cell, Line};
 use adobethrum::{Answer, LIST, STATE};
 use std::hint::black_box;
 use std::time::{Duration, Instant};
@@ -69,7 +69,9 @@ impl Case {
             Again::AsItWas => (0..rounds).for_each(|_| self.round(side, &mut states[0], &mut list)),
             Again::Copied => states.iter_mut().for_each(|state| self.round(side, state, &mut list)),
         }
-        begun.elapsed()
+        let time = begun.elapsed();
+        assert!(self.again == Again::Copied || states[0] == first, "each round finds the state that the first one found");
+        time
     }
 
     /// So many rounds that the side's batch is long enough.
@@ -99,8 +101,9 @@ impl Measured<3> {
 
     pub fn line(&self) -> Line {
         let [ours, plain, indexed] = self.times();
-        let others = vec![Some(plain), Some(indexed)];
-        Line { what: self.case.name.clone(), tables: self.case.tables.clone(), ours, others }
+        let others = [plain, indexed].into_iter().flat_map(|other| beside(ours, other));
+        let cells = std::iter::once(Cell::Time(ours)).chain(others).collect();
+        Line { what: self.case.name.clone(), tables: self.case.tables.clone(), cells }
     }
 }
 

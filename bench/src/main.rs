@@ -8,51 +8,68 @@ mod cases;
 mod indexed;
 mod place;
 mod plain;
+mod process;
 mod programs;
 mod scene;
 mod table;
 mod worst;
 
+use process::Programs;
 use table::{Head, Line};
 
 /// The machine is not always equally quick, so every case is measured in several passes over all of them.
 const PASSES: usize = 8;
 
-const CALLS: Head = Head { title: "Public calls", note: "", unit: "µs", others: &["plain", "indexed"] };
+const CALLS: Head = Head { title: "Public calls", note: "", columns: &["ours, µs", "plain, µs", "ratio", "indexed, µs", "ratio"] };
 const EVENTS: Head = Head {
     title: "The program's events",
-    note: "An event includes reading its record and writing its answer, which plain unjudged does not: so the first ratio is an upper \
-           bound of what the inner call costs beside it.",
-    unit: "µs",
-    others: &["plain unjudged", "second"],
+    note: "Record is the event's twin, refused with 3; ours call is event less record, and the first ratio is its own to plain unjudged.\n\
+           The last ratio is that of the event.",
+    columns: &["ours event, µs", "record, µs", "ours call, µs", "plain unjudged, µs", "ratio", "second, µs", "ratio"],
 };
-const TEXTS: Head = Head { title: "Whole texts through the program", note: "", unit: "ms", others: &["second"] };
+const TEXTS: Head = Head { title: "Whole texts through the program", note: "", columns: &["ours, ms", "second, ms", "ratio"] };
 
 type Tables = Vec<(Head, Vec<Line>)>;
 
+/// What is run as a process: sessions with events, and whole texts.
+struct Processes<'a> {
+    programs: Programs<'a>,
+    sessions: Vec<programs::Session>,
+    texts: Vec<worst::Busy>,
+}
+
+impl<'a> Processes<'a> {
+    fn of(programs: Programs<'a>) -> Result<Processes<'a>, String> {
+        let mut sessions = programs::all()?;
+        sessions.iter_mut().try_for_each(|session| session.agree(programs))?;
+        Ok(Processes { programs, sessions, texts: worst::all()? })
+    }
+
+    fn pass(&mut self) -> Result<(), String> {
+        self.sessions.iter_mut().try_for_each(|session| session.pass(self.programs))?;
+        self.texts.iter_mut().try_for_each(|text| text.pass(self.programs))
+    }
+
+    fn tables(&self) -> Tables {
+        let sessions = self.sessions.iter().map(programs::Session::line).collect();
+        let texts = self.texts.iter().map(worst::Busy::line).collect();
+        vec![(EVENTS, sessions), (TEXTS, texts)]
+    }
+}
+
 fn measured(programs: &[String]) -> Result<Tables, String> {
-    let programs = match programs {
+    let mut processes = match programs {
         [] => None,
-        [terminal, second] => Some([terminal.as_str(), second]),
+        [terminal, second] => Some(Processes::of([terminal, second])?),
         _ => return Err("usage: bench [--page] [TERMINAL SECOND]".to_string()),
     };
     let mut cases = cases::all()?.into_iter().map(case::Measured::judged).collect::<Result<Vec<_>, _>>()?;
-    let mut sessions = if programs.is_some() { programs::all()? } else { Vec::new() };
-    if let Some(programs) = programs {
-        sessions.iter().try_for_each(|session| session.agree(programs))?;
-    }
     for _ in 0..PASSES {
         cases.iter_mut().for_each(case::Measured::pass);
-        if let Some(programs) = programs {
-            sessions.iter_mut().try_for_each(|session| session.pass(programs))?;
-        }
+        processes.iter_mut().try_for_each(Processes::pass)?;
     }
-    let mut tables = vec![(CALLS, cases.iter().map(case::Measured::line).collect())];
-    if let Some(programs) = programs {
-        tables.push((EVENTS, sessions.iter().map(programs::Session::line).collect()));
-        tables.push((TEXTS, worst::lines(programs)?));
-    }
-    Ok(tables)
+    let calls = (CALLS, cases.iter().map(case::Measured::line).collect());
+    Ok(std::iter::once(calls).chain(processes.iter().flat_map(Processes::tables)).collect())
 }
 
 fn main() {

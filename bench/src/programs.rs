@@ -2,96 +2,98 @@
 
 use crate::call::Call::{self, *};
 use crate::case::{Again, Case, Measured};
+use crate::process::{room, Input, Programs, OURS, SECOND};
 use crate::scene::{Scene, FULL, LATE_USER, NO_PRIVILEGE};
-use crate::table::Line;
-use std::io::Write;
-use std::process::{Command, Stdio};
-use std::time::{Duration, Instant};
+use crate::table::{beside, Cell, Line};
 
-/// The most that the program reads, and how often each session is run in a pass.
-const ROOM: usize = 65536;
+/// In a pass each program runs the texts of a session in turns for about so long, in microseconds, and at least so often.
+const PASS: f64 = 500_000.0;
 const RUNS: usize = 3;
 
-/// The wall time of a program on an input, and what it writes.
-pub fn run(program: &str, input: &str) -> Result<(Duration, Vec<u8>), String> {
-    let failed = |error| format!("{program}: {error}");
-    let begun = Instant::now();
-    let mut child = Command::new(program).stdin(Stdio::piped()).stdout(Stdio::piped()).spawn().map_err(failed)?;
-    // Both programs read all of their input before they write.
-    child.stdin.take().expect("it is piped").write_all(input.as_bytes()).map_err(failed)?;
-    let output = child.wait_with_output().map_err(failed)?;
-    Ok((begun.elapsed(), output.stdout))
-}
-
-/// Two inputs: by how much a program is slower on the first is what is measured, and shared out over so many times.
+/// A session whose cost is measured beside that of the session without what is measured, and shared out over so many times.
 pub struct Session {
     what: String,
     tables: &'static str,
-    inputs: [String; 2],
+    with: Input,
+    without: Input,
     times: usize,
-    /// Of each program, on each input.
-    best: [[Duration; 2]; 2],
+    event: Option<Event>,
+}
+
+/// What tells the call of an event from its record.
+struct Event {
+    /// The session in which each record has its twin: a number out of its range, which is refused with 3.
+    twins: Input,
     /// The same calls of the plain baseline, without judging.
-    unjudged: Option<Measured<1>>,
+    unjudged: Measured<1>,
 }
 
 impl Session {
-    fn new(what: String, tables: &'static str, inputs: [String; 2], times: usize) -> Session {
-        Session { what, tables, inputs, times, best: [[Duration::MAX; 2]; 2], unjudged: None }
-    }
-
-    /// The cost of calls as events: a session with many of them against the same session without. Each call has its answer.
+    /// The cost of calls as events. Each call has its answer.
     fn of_events(scene: &Scene, tables: &'static str, name: &str, calls: &[(Call, u16, u16)]) -> Result<Session, String> {
         let what = format!("event: {name}");
-        let (text, times) = with_events(scene, &asked(calls));
-        let (scene, inputs) = (scene.clone(), [text, scene.records()]);
-        let case = Case { name: what.clone(), tables: tables.into(), scene, calls: calls.to_vec(), again: Again::AsItWas };
-        Ok(Session { unjudged: Some(Measured::unjudged(case)?), ..Session::new(what, tables, inputs, times) })
+        let times = room(scene, calls);
+        let [with, without] = [times, 0].map(|times| Input::of_events(scene, calls, times));
+        let refused: Vec<_> = calls.iter().map(|(call, ..)| (call.out_of_range(), 3, 0)).collect();
+        let twins = Input::of_events(scene, &refused, times);
+        if twins.text.len() != with.text.len() {
+            return Err(format!("{what}: the twins are not as long as the records"));
+        }
+        let case = Case { name: what.clone(), tables: tables.into(), scene: scene.clone(), calls: calls.to_vec(), again: Again::AsItWas };
+        let event = Some(Event { twins, unjudged: Measured::unjudged(case)? });
+        Ok(Session { what, tables, with, without, times, event })
     }
 
-    /// The programs must write the same.
-    pub fn agree(&self, programs: [&str; 2]) -> Result<(), String> {
-        for input in &self.inputs {
-            let [(_, a), (_, b)] = [run(programs[0], input)?, run(programs[1], input)?];
-            if a != b || a.windows(3).any(|bytes| bytes == b"bad") {
-                return Err(format!("{}, {}: the programs differ, or find it bad", self.what, self.tables));
-            }
-        }
-        Ok(())
+    /// A whole session, against an empty one.
+    fn whole(scene: &Scene, tables: &'static str, calls: &[(Call, u16, u16)]) -> Session {
+        let with = Input::of_events(scene, calls, room(scene, calls));
+        let what = format!("program: a session of {} bytes", with.text.len());
+        Session { what, tables, with, without: Input::new(String::new(), String::new()), times: 1, event: None }
     }
 
-    /// The runs of both programs take turns; the calls without judging follow.
-    pub fn pass(&mut self, programs: [&str; 2]) -> Result<(), String> {
-        for _ in 0..RUNS {
-            for (best, program) in self.best.iter_mut().zip(programs) {
-                for (best, input) in best.iter_mut().zip(&self.inputs) {
-                    *best = run(program, input)?.0.min(*best);
-                }
+    /// The texts that a program is timed on. The twins are ours only: plain unjudged, which they are for, is set beside ours.
+    fn inputs(&mut self, side: usize) -> impl Iterator<Item = &mut Input> {
+        let twins = self.event.as_mut().filter(|_| side == OURS).map(|event| &mut event.twins);
+        [&mut self.with, &mut self.without].into_iter().chain(twins)
+    }
+
+    fn turn(&mut self, programs: Programs, side: usize) -> Result<(), String> {
+        let wrong = format!("{}, {}", self.what, self.tables);
+        self.inputs(side).try_for_each(|input| input.run(programs, side)).map_err(|why| format!("{wrong}: {why}"))
+    }
+
+    /// Each program runs each of its texts once, so that nothing is measured that is not answered as it should be.
+    pub fn agree(&mut self, programs: Programs) -> Result<(), String> {
+        [OURS, SECOND].into_iter().try_for_each(|side| self.turn(programs, side))
+    }
+
+    /// The texts take turns, first with the one program and then with the other; the calls without judging follow.
+    pub fn pass(&mut self, programs: Programs) -> Result<(), String> {
+        for side in [OURS, SECOND] {
+            let turn: f64 = self.inputs(side).map(|input| input.best(side)).sum();
+            for _ in 0..RUNS.max((PASS / turn) as usize) {
+                self.turn(programs, side)?;
             }
         }
-        self.unjudged.iter_mut().for_each(Measured::pass);
+        self.event.iter_mut().for_each(|event| event.unjudged.pass());
         Ok(())
     }
 
     pub fn line(&self) -> Line {
-        let each = |[with, without]: [Duration; 2]| (with.as_secs_f64() - without.as_secs_f64()) * 1e6 / self.times as f64;
-        let [ours, second] = self.best.map(each);
-        let unjudged = self.unjudged.as_ref().map(|measured| measured.times()[0]);
-        Line { what: self.what.clone(), tables: self.tables.into(), ours, others: vec![unjudged, Some(second)] }
+        let share = |side, input: &Input, less: &Input| (input.best(side) - less.best(side)) / self.times as f64;
+        let [ours, second] = [OURS, SECOND].map(|side| share(side, &self.with, &self.without));
+        let mut cells = vec![Cell::Time(ours)];
+        match &self.event {
+            None => cells.extend([Cell::Nothing; 4]),
+            Some(Event { twins, unjudged }) => {
+                let call = share(OURS, &self.with, twins);
+                cells.extend([share(OURS, twins, &self.without), call].map(Cell::Time));
+                cells.extend(beside(call, unjudged.times()[0]));
+            }
+        }
+        cells.extend(beside(ours, second));
+        Line { what: self.what.clone(), tables: self.tables.into(), cells }
     }
-}
-
-/// The calls without their answers.
-fn asked(calls: &[(Call, u16, u16)]) -> Vec<Call> {
-    calls.iter().map(|&(call, ..)| call).collect()
-}
-
-/// The scene's session, and the calls again and again, as often as there is room; returns how often.
-pub fn with_events(scene: &Scene, calls: &[Call]) -> (String, usize) {
-    let story = scene.records();
-    let events: String = calls.iter().map(|call| call.record()).collect();
-    let times = (ROOM - story.len()) / events.len();
-    (story + &events.repeat(times), times)
 }
 
 /// Every session, in the order of the table.
@@ -105,11 +107,9 @@ pub fn all() -> Result<Vec<Session>, String> {
     let invoke = [(Invoke(user, NO_PRIVILEGE), 0, 0)];
     let effective = [(Effective(user, role, NO_PRIVILEGE), 0, 0)];
     let mixed = [&moves[..], &papers, &idle, &invoke, &effective].concat();
-    let (whole, _) = with_events(&full, &asked(&mixed));
-    let what = format!("program: a session of {} bytes", whole.len());
     let diamond = |role| [(Effective(0, role, NO_PRIVILEGE), 0, 0)];
     Ok(vec![
-        Session::new(what, "full", [whole, String::new()], 1),
+        Session::whole(&full, "full", &mixed),
         Session::of_events(&full, "full", "logout, then activate", &moves)?,
         Session::of_events(&full, "full", "withdraw, then appoint", &papers)?,
         Session::of_events(&full, "full", "environment, fells 0", &idle)?,

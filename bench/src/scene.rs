@@ -21,6 +21,8 @@ pub struct Scene {
     pub rights: Vec<u16>,
     /// Leads from a fresh state to this one.
     pub story: Vec<Call>,
+    /// What the program writes for the story.
+    pub answers: String,
     pub state: Vec<u16>,
 }
 
@@ -83,6 +85,7 @@ impl Scene {
             if answers[0].code != 0 || !agreed {
                 return Err(format!("{call:?} of a story: refused, or the sides differ"));
             }
+            self.answers.push_str(&format!("{},{}\r\n", answers[0].code, answers[0].second));
         }
         self.state = states[0].to_vec();
         Ok(self)

@@ -1,50 +1,35 @@
-//! The texts that keep the program busiest: after a policy and a state as large as may be, as many events as fit, each of the dearest.
+//! The texts that keep the program busiest, of each word of its vocabulary: after a policy and a state that make a call as long as may
+//! be, as many of these calls as there is room for.
 
 use crate::call::Call::{self, *};
-use crate::programs::{run, with_events};
+use crate::process::{room, Input, Programs, OURS, SECOND};
 use crate::scene::Scene;
-use crate::table::Line;
-use std::time::Duration;
+use crate::table::{beside, Cell, Line};
 
-/// A text is run so often by each program; the best run counts.
-const RUNS: usize = 3;
-
-/// A state, the calls that are repeated on it, and what each of them answers.
-struct Busy {
+/// A text, and how many events it ends in.
+pub struct Busy {
     what: &'static str,
-    scene: Scene,
-    calls: Vec<Call>,
-    answer: &'static str,
+    events: usize,
+    input: Input,
 }
 
 impl Busy {
-    /// Both programs, in turns: what they write must be the same, and in the end the wanted answer for each repeated call.
-    fn line(&self, programs: [&str; 2]) -> Result<Line, String> {
-        let (text, times) = with_events(&self.scene, &self.calls);
-        let events = times * self.calls.len();
-        let wanted = self.answer.repeat(events).into_bytes();
-        let mut best = [Duration::MAX; 2];
-        for turn in 0..RUNS * best.len() {
-            let side = turn % best.len();
-            let (time, written) = run(programs[side], &text)?;
-            if !written.ends_with(&wanted) || written.len() != self.before() + wanted.len() {
-                return Err(format!("{}: {} does not answer {} to each event", self.what, programs[side], self.answer.trim_end()));
-            }
-            best[side] = time.min(best[side]);
-        }
-        let [ours, second] = best.map(|time| time.as_secs_f64() * 1e3);
-        let tables = format!("{events} events, {} bytes", text.len());
-        Ok(Line { what: self.what.into(), tables, ours, others: vec![Some(second)] })
+    /// The calls again and again on a state, each with its answer.
+    fn new(what: &'static str, scene: &Scene, calls: &[(Call, u16, u16)]) -> Busy {
+        let times = room(scene, calls);
+        Busy { what, events: times * calls.len(), input: Input::of_events(scene, calls, times) }
     }
 
-    /// How many bytes the answers to the story have: each is accepted, an activation with its rule.
-    fn before(&self) -> usize {
-        let rule_of = |role: u16| self.scene.rules.chunks_exact(11).position(|rule| rule[0] == role).unwrap_or(0);
-        let length = |call: &Call| match *call {
-            Activate(_, role) => format!("0,{}\r\n", rule_of(role)).len(),
-            _ => "0,0\r\n".len(),
-        };
-        self.scene.story.iter().map(length).sum()
+    /// One run of each program; the best run of all passes counts.
+    pub fn pass(&mut self, programs: Programs) -> Result<(), String> {
+        [OURS, SECOND].into_iter().try_for_each(|side| self.input.run(programs, side)).map_err(|why| format!("{}: {why}", self.what))
+    }
+
+    pub fn line(&self) -> Line {
+        let [ours, second] = [OURS, SECOND].map(|side| self.input.best(side) / 1e3);
+        let tables = format!("{} events, {} bytes", self.events, self.input.text.len());
+        let cells = [Cell::Time(ours)].into_iter().chain(beside(ours, second)).collect();
+        Line { what: self.what.into(), tables, cells }
     }
 }
 
@@ -75,15 +60,49 @@ fn on_eight_kinds_of_four() -> Result<Scene, String> {
     scene.told()
 }
 
-/// 256 rows on the same eight kinds, whose certificates stand last but one among 256; the last is of a kind that nothing rests on.
-fn on_eight_kinds() -> Result<Scene, String> {
+/// 256 rows, each on the row before it and seven times on the condition given. The kind asks for the first role four times.
+fn on_the_first_row(condition: u16) -> Result<Scene, String> {
     let mut scene = Scene::default();
-    (0..128).for_each(|_| scene.kind(0, 0, &[]));
     scene.rule(0, 0, &[]);
-    (1..256).for_each(|role| scene.rule(role, 8, &[119, 120, 121, 122, 123, 124, 125, 126].map(|kind| 256 + kind)));
+    (1..256).for_each(|role| scene.rule(role, 8, &[&[role - 1][..], &[condition; 7]].concat()));
     scene.story.extend(activations(0..1));
-    scene.story.extend([1, 0].into_iter().flat_map(|user| (0..128).map(move |kind| Appoint(0, user, kind))));
+    if condition == 256 {
+        scene.kind(0, 0, &[0; 4]);
+        scene.story.push(Appoint(0, 0, 0));
+    }
     scene.story.extend(activations(1..256));
+    scene.told()
+}
+
+/// 256 rows of eight users, 31 of each on eight times a kind that asks four times for the user's first role. So the rules are few, and
+/// leave room for more events.
+fn of_eight_users() -> Result<Scene, String> {
+    let mut scene = Scene::default();
+    scene.rule(0, 0, &[]);
+    (1..32).for_each(|role| scene.rule(role, 8, &[256; 8]));
+    scene.kind(0, 0, &[0; 4]);
+    scene.story.extend((0..8).map(|user| Activate(user, 0)));
+    scene.story.extend((0..8).map(|user| Appoint(0, user, 0)));
+    scene.story.extend((0..8).flat_map(|user| (1..32).map(move |role| Activate(user, role))));
+    scene.told()
+}
+
+/// 256 users in one role each.
+fn one_row_each() -> Result<Scene, String> {
+    let mut scene = Scene::default();
+    scene.rule(0, 0, &[]);
+    scene.story.extend((0..256).map(|user| Activate(user, 0)));
+    scene.told()
+}
+
+/// 256 rows, of which the appointer's is the last, and 256 certificates.
+fn all_taken() -> Result<Scene, String> {
+    let mut scene = Scene::default();
+    (0..2).for_each(|role| scene.rule(role, 0, &[]));
+    (0..2).for_each(|_| scene.kind(1, 0, &[]));
+    scene.story.extend((1..256).map(|user| Activate(user, 0)));
+    scene.story.push(Activate(0, 1));
+    scene.story.extend((0..256).map(|user| Appoint(0, user, 0)));
     scene.told()
 }
 
@@ -104,49 +123,77 @@ fn rules_on_roles() -> Result<Scene, String> {
     scene.told()
 }
 
-/// 508 rules for role 0, each seven times on a kind with four prerequisite roles and on a fact that is not 1. Of 256 certificates of
-/// the kind the user's own is the last.
+/// 511 rules for role 0, each seven times on a kind with four prerequisite roles, and on one that misses the last of its four.
 fn rules_on_kinds() -> Result<Scene, String> {
     let mut scene = Scene::default();
-    (1..5).for_each(|role| scene.rule(role, 0, &[]));
-    (0..508).for_each(|_| scene.rule(0, 0, &[256, 256, 256, 256, 256, 256, 256, 447]));
-    scene.kind(1, 0, &[1, 2, 3, 4]);
-    scene.story.extend(activations(1..5));
-    scene.story.extend((0..256).rev().map(|user| Appoint(0, user, 0)));
+    scene.rule(1, 0, &[]);
+    (0..511).for_each(|_| scene.rule(0, 0, &[256, 256, 256, 256, 256, 256, 256, 257]));
+    scene.kind(1, 0, &[1; 4]);
+    scene.kind(1, 0, &[1, 1, 1, 0]);
+    scene.story.extend([Activate(0, 1), Appoint(0, 0, 0), Appoint(0, 0, 1)]);
     scene.told()
 }
 
-/// User 0 in the roles from the first on, and 2,048 rights of role 0 to privilege 0.
-fn many_rights(first: u16) -> Result<Scene, String> {
+/// User 0 in every role but 0, and 2,048 rights of role 0 to privilege 0.
+fn many_rights() -> Result<Scene, String> {
     let mut scene = Scene { rights: vec![0; 2 * 2048], ..Scene::default() };
     (0..256).for_each(|role| scene.rule(role, 0, &[]));
-    scene.story.extend(activations(first..256));
+    scene.story.extend(activations(1..256));
     scene.told()
 }
 
-fn all() -> Result<Vec<Busy>, String> {
-    const NOTHING: &str = "0,0\r\n";
-    const UNSATISFIED: &str = "5,0\r\n";
-    let busy = |what, scene: Result<Scene, String>, calls: &[Call], answer| {
-        scene.map(|scene| Busy { what, scene, calls: calls.to_vec(), answer })
-    };
-    let facts = [Environment(0, 0), Environment(0, 1)];
-    let papers = [Withdraw(0, 127, 0), Appoint(0, 0, 127)];
-    [
-        busy("env: 256 rows on eight roles", on_eight_roles(), &facts, NOTHING),
-        busy("env: 256 rows on eight kinds of four", on_eight_kinds_of_four(), &facts, NOTHING),
-        busy("withdraw, appoint: rows on eight kinds", on_eight_kinds(), &papers, NOTHING),
-        busy("activate, refused: 512 rules on facts", rules_on_facts(), &[Activate(0, 0)], UNSATISFIED),
-        busy("activate, refused: 257 rules on roles", rules_on_roles(), &[Activate(0, 0)], UNSATISFIED),
-        busy("activate, refused: 508 rules on kinds", rules_on_kinds(), &[Activate(0, 0)], UNSATISFIED),
-        busy("invoke, none: 256 roles, 2,048 rights", many_rights(0), &[Invoke(0, 1)], NOTHING),
-        busy("invoke, none: all rights of another role", many_rights(1), &[Invoke(0, 0)], NOTHING),
-    ]
-    .into_iter()
-    .collect()
+/// A policy with all the rules and kinds that there may be and rights as there is room for, every field of it quoted, and one event.
+fn quoted_policy() -> Busy {
+    let mut scene = Scene { rights: [255, 1023].repeat(1190), ..Scene::default() };
+    (0..512).for_each(|_| scene.rule(255, 8, &[383; 8]));
+    (0..128).for_each(|_| scene.kind(255, 2, &[255; 4]));
+    let quoted = |record: &str| record.split(',').map(|field| format!("\"{field}\"")).collect::<Vec<_>>().join(",") + "\r\n";
+    let policy: String = scene.records().lines().map(quoted).collect();
+    let input = Input::new(policy + "logout,0\r\n", "0,0\r\n".into());
+    Busy { what: "reading: a policy, every field quoted", events: 1, input }
 }
 
-/// What each text costs, in the order of the table.
-pub fn lines(programs: [&str; 2]) -> Result<Vec<Line>, String> {
-    all()?.iter().map(|busy| busy.line(programs)).collect()
+/// As many records as there may be, of which the last is bad.
+fn bad_at_the_end() -> Busy {
+    let events = 6552;
+    let [text, wanted] = [("logout,0\r\n", "x\r\n"), ("0,0\r\n", "bad,6553\r\n")].map(|(each, last)| each.repeat(events) + last);
+    Busy { what: "reading: bad at the end", events, input: Input::new(text, wanted) }
+}
+
+/// The calls that are long on rows that rest on many others.
+fn on_rows() -> Result<Vec<Busy>, String> {
+    let [by_kind, directly] = [on_the_first_row(256)?, on_the_first_row(0)?];
+    let [roles, kinds, users] = [on_eight_roles()?, on_eight_kinds_of_four()?, of_eight_users()?];
+    let facts = [(Environment(0, 0), 0, 0), (Environment(0, 1), 0, 0)];
+    let effective = [(Effective(0, 255, 1), 0, 0)];
+    let appoint = (Appoint(0, 9, 0), 0, 0);
+    Ok(vec![
+        Busy::new("effective: rows on the first, by a kind", &by_kind, &effective),
+        Busy::new("effective: rows on the first, directly", &directly, &effective),
+        Busy::new("effective: rows on eight kinds of four", &kinds, &effective),
+        Busy::new("env: 256 rows on eight roles", &roles, &facts),
+        Busy::new("env: 256 rows on eight kinds of four", &kinds, &facts),
+        Busy::new("env: rows of eight users on kinds of four", &users, &facts),
+        Busy::new("appoint, withdraw: the same rows", &users, &[appoint, (Withdraw(9, 0, 0), 0, 0)]),
+        Busy::new("appoint, revoke: the same rows", &users, &[appoint, (Revoke(0, 9, 0, 0), 0, 0)]),
+    ])
+}
+
+/// The calls that are long on tables with many rows of any sort.
+fn on_tables() -> Result<Vec<Busy>, String> {
+    let unsatisfied = [(Activate(0, 0), 5, 0)];
+    let leave: Vec<_> = (0..256).flat_map(|user| [(Logout(user), 0, 1), (Activate(user, 0), 0, 0)]).collect();
+    Ok(vec![
+        Busy::new("activate, refused: 512 rules on facts", &rules_on_facts()?, &unsatisfied),
+        Busy::new("activate, refused: 257 rules on roles", &rules_on_roles()?, &unsatisfied),
+        Busy::new("activate, refused: 511 rules on kinds", &rules_on_kinds()?, &unsatisfied),
+        Busy::new("logout, activate: the first of 256 rows", &one_row_each()?, &leave),
+        Busy::new("appoint, refused: 256 certificates", &all_taken()?, &[(Appoint(0, 0, 1), 6, 0)]),
+        Busy::new("invoke, none: 2,048 rights", &many_rights()?, &[(Invoke(0, 0), 0, 0)]),
+    ])
+}
+
+/// Every text, in the order of the table.
+pub fn all() -> Result<Vec<Busy>, String> {
+    Ok(on_rows()?.into_iter().chain(on_tables()?).chain([quoted_policy(), bad_at_the_end()]).collect())
 }
