@@ -1,202 +1,235 @@
--- Effective: what code asks row by row is the model's, and a row that does not carry the privilege need not be asked again.
+-- Effective: what code finds from the last row down is the model's.
 use Prim.Native.Nat.{ℕ, zero, suc, _+_, _-_, _≤_, _<_}
 use mathlib.Core.Path.{_≡_, refl, sym, ap, _∙_, subst, subst⁻¹}
-use mathlib.Core.Bool.{Bool, true, false, _||_, cond}
-use mathlib.Core.Logic.{_⊎_, inl, inr, _≢_}
+use mathlib.Core.Bool.{Bool, true, false, _&&_, _||_, cond, true≢false}
+use mathlib.Core.Logic.{_⊎_, inl, inr}
 use mathlib.Core.List.{List, [], _∷_, reverse, List·Memᴰ}
 use native.Mathlib.Omega.{arith}
-use native.Mathlib.Numerals.{add-one}
-use lib.Dec.{eqb}
-use borrow.Author.Tests.{eqb-true, eqb-false}
-use lib.ListN.{length, getD, take, set, length-set, List·getD-eq-default}
-use lib.Seq.{getD-set-same, getD-set-other, take-suc, getD-take}
+use lib.Dec.{T, eqb}
+use borrow.Author.Tests.{eq-eqb, eqb-true}
+use lib.ListN.{length, getD, set, replicate, length-set, length-replicate}
 use Rattle.model.specs.Lists.{any, joined}
 use Rattle.model.specs.Records.{Tables}
 use Rattle.model.specs.Layout.{policyOf, rowCount}
-use Rattle.model.specs.Conditions.{role, meant, isRow, membership, ruleNumbered, rolesAsked, restsOn}
+use Rattle.model.specs.Conditions.{meant, isRow, membership, ruleNumbered, rolesAsked, restsOn}
 use Rattle.model.specs.declared.Row.{Row}
 use Rattle.model.specs.Words.{Sound}
-use Rattle.model.proofs.Tests.{lt-or-ge, or-later, is-true, of-true, any-append, of-any, at-place}
-use Rattle.model.proofs.Support.{isRow-role}
+use Rattle.model.proofs.Tests.{lt-or-ge, is-true, of-true, is-false, of-false, not-of, refute, and-left, and-right, and-both, any-of, of-any, at-place}
+use Rattle.model.proofs.Support.{isRow-user, isRow-role, joined-of, of-joined}
 use Rattle.model.proofs.Carried.{reverse-last}
 use Rattle.table.specs.Entries.{rowAt, firstRows, without-rights}
-use Rattle.rests.specs.Newest.{newest, Placed, placeIn}
-use Rattle.rests.proofs.Newest.{rows-more, newest-within, newest-keeps, row-for}
-use Rattle.rests.proofs.Placing.{place-there, place-of}
+use Rattle.rests.specs.Newest.{newest}
+use Rattle.rests.specs.Marked.{Answered, Closed, Grown}
+use Rattle.rests.proofs.Newest.{rows-more}
 use Rattle.rests.proofs.Asking.{roles-same}
+use Rattle.rests.proofs.Marking.{place-of, mark-here, mark-only}
 use Rattle.direct.specs.Having.{hasRight}
 use Rattle.inner.proofs.Codes.{sound-sized}
-use Rattle.query.specs.Reached.{carried, reachedIn, conditionReaches, rowReaches, Standing, Asking}
-use Rattle.query.proofs.Single.{newest-stays}
-
--- ── the first elements of a list, searched one by one ──
-
-module _ {A : Type 0} (test : A → Bool) (l : List A) (d : A) where
-  pub any-take-next : (i : ℕ) → i < length l → any test (take i l) ≡ false → test (getD l i d) ≡ false → any test (take (i + 1) l) ≡ false
-  any-take-next i h a b = ap (λ (n : ℕ). any test (take n l)) (add-one i) ∙ ap (any test) (take-suc l i d h) ∙ any-append test (take i l) (getD l i d ∷ []) ∙ (λ j. a j || (b j || false))
-
-  pub any-take-hit : (n i : ℕ) → i < n → i < length l → test (getD l i d) ≡ true → any test (take n l) ≡ true
-  any-take-hit n i h k e =
-      is-true (any test (take n l)) (of-any test (getD l i d) (take n l) (subst (λ (x : A). List·Memᴰ x (take n l)) (getD-take n l i d h) (at-place (take n l) i d (simp lib.ListN.length-take (omega arith)))) (of-true (test (getD l i d)) e))
-
-module _ {A B : Type 0} (test : B → Bool) (f : A → List B) where
-  pub any-joined : (l : List A) → any test (joined f l) ≡ any (λ (x : A). any test (f x)) l
-  any-joined [] = refl
-  any-joined (x ∷ l) = any-append test (f x) (joined f l) ∙ ap (λ (b : Bool). any test (f x) || b) (any-joined l)
-
--- ── what a row asks ──
+use Rattle.query.specs.Reached.{carried, reachedIn, restReaches, Ready, SomeReached, NoneReached, Tells}
+use Rattle.query.proofs.Single.{roles-fit, first-for}
 
 module _ (t : Tables) (having : List Bool) (s : List ℕ) (u : ℕ) where
-  -- a role with no row before k is not carried, and one with a newest row is carried if that row carries it
-  pub reached-none : (k q : ℕ) → newest s u q k ≡ 0 → reachedIn t having s u k q ≡ false
+  -- ── one row more ──
+
+  reached-next : (k q : ℕ) (b : Bool) → isRow u q (rowAt s k) ≡ b → reachedIn t having s u (suc k) q ≡ cond b (hasRight having q || restReaches t having s u k) (reachedIn t having s u k q)
+  unfolding reachedIn restReaches
+  reached-next k q b r =
+      ap (λ (l : List Row). carried t having u (reverse l) q) (rows-more s k)
+      ∙ ap (λ (l : List Row). carried t having u l q) (reverse-last (firstRows s k) (rowAt s k))
+      ∙ ap (λ (b : Bool). cond b (hasRight having q || any (λ (lower : ℕ). carried t having u (reverse (firstRows s k)) lower) (restsOn (policyOf t) (rowAt s k))) (carried t having u (reverse (firstRows s k)) q)) r
+
+  -- a role that has no row carries nothing
+  reached-none : (k q : ℕ) → newest s u q k ≡ 0 → reachedIn t having s u k q ≡ false
   unfolding newest reachedIn firstRows
   reached-none zero q e = refl
   reached-none (suc k) q e = go (isRow u q (rowAt s k)) refl e (reached-none k q)
     where
       go : (b : Bool) → isRow u q (rowAt s k) ≡ b → cond b (suc k) (newest s u q k) ≡ 0 → (newest s u q k ≡ 0 → reachedIn t having s u k q ≡ false) → reachedIn t having s u (suc k) q ≡ false
       go true r z f = absurd (omega arith)
-      go false r z f =
-          ap (λ (l : List Row). carried t having u (reverse l) q) (rows-more s k)
-          ∙ ap (λ (l : List Row). carried t having u l q) (reverse-last (firstRows s k) (rowAt s k))
-          ∙ ap (λ (b : Bool). cond b (hasRight having q || any (λ (lower : ℕ). carried t having u (reverse (firstRows s k)) lower) (restsOn (policyOf t) (rowAt s k))) (carried t having u (reverse (firstRows s k)) q)) r
-          ∙ f z
+      go false r z f = reached-next k q false r ∙ f z
 
-  pub reached-at : (k q p : ℕ) → p ≡ newest s u q k → p ≢ 0 → reachedIn t having s u k q ≡ rowReaches t having s u (p - 1)
-  unfolding newest reachedIn rowReaches
-  reached-at zero q p e n = absurd (n e)
-  reached-at (suc k) q p e n = go (isRow u q (rowAt s k)) refl e (reached-at k q p)
+  reached-beyond : Ready t having s u → (k q : ℕ) → k ≤ rowCount s → 256 ≤ q → reachedIn t having s u k q ≡ false
+  unfolding reachedIn firstRows
+  reached-beyond h zero q l m = refl
+  reached-beyond h (suc k) q l m = go (isRow u q (rowAt s k)) refl (reached-beyond h k q (omega arith) m)
     where
-      here : cond (isRow u q (rowAt s k)) (hasRight having q || any (λ (lower : ℕ). carried t having u (reverse (firstRows s k)) lower) (restsOn (policyOf t) (rowAt s k))) (carried t having u (reverse (firstRows s k)) q) ≡ reachedIn t having s u (suc k) q
-      here = sym (ap (λ (l : List Row). carried t having u (reverse l) q) (rows-more s k) ∙ ap (λ (l : List Row). carried t having u l q) (reverse-last (firstRows s k) (rowAt s k)))
+      go : (b : Bool) → isRow u q (rowAt s k) ≡ b → reachedIn t having s u k q ≡ false → reachedIn t having s u (suc k) q ≡ false
+      go true r f = absurd (omega (arith, h .fits k (omega arith), isRow-role u q (rowAt s k) (of-true (isRow u q (rowAt s k)) r)))
+      go false r f = reached-next k q false r ∙ f
 
-      go : (b : Bool) → isRow u q (rowAt s k) ≡ b → p ≡ cond b (suc k) (newest s u q k) → (p ≡ newest s u q k → p ≢ 0 → reachedIn t having s u k q ≡ rowReaches t having s u (p - 1)) → reachedIn t having s u (suc k) q ≡ rowReaches t having s u (p - 1)
-      go true r z f =
-          let at : k ≡ p - 1 = omega arith in
-          sym here
-          ∙ ap (λ (b : Bool). cond b (hasRight having q || any (λ (lower : ℕ). carried t having u (reverse (firstRows s k)) lower) (restsOn (policyOf t) (rowAt s k))) (carried t having u (reverse (firstRows s k)) q)) r
-          ∙ ap (λ (w : ℕ). hasRight having w || any (λ (lower : ℕ). carried t having u (reverse (firstRows s k)) lower) (restsOn (policyOf t) (rowAt s k))) (sym (isRow-role u q (rowAt s k) (of-true (isRow u q (rowAt s k)) r)))
-          ∙ ap (λ (w : ℕ). rowReaches t having s u w) at
-      go false r z f =
-          sym here
-          ∙ ap (λ (b : Bool). cond b (hasRight having q || any (λ (lower : ℕ). carried t having u (reverse (firstRows s k)) lower) (restsOn (policyOf t) (rowAt s k))) (carried t having u (reverse (firstRows s k)) q)) r
-          ∙ f z n
+  -- ── the answer for the first rows is that for one row more ──
 
-  -- a row is its own role and the conditions of its own rule, the first m of them
-  row-conditions : (k : ℕ) → rowReaches t having s u k ≡ (hasRight having (rowAt s k .role) || any (conditionReaches t having s u k) (membership (ruleNumbered (policyOf t) (rowAt s k .rule))))
-  unfolding rowReaches conditionReaches restsOn
-  row-conditions k =
-      ap (λ (b : Bool). hasRight having (rowAt s k .role) || b) (any-joined (reachedIn t having s u k) (λ (c : ℕ). rolesAsked (policyOf t) (meant c)) (membership (ruleNumbered (policyOf t) (rowAt s k .rule))))
+  pub tell-none : (asked : List Bool) (k : ℕ) → k ≤ 0 → Tells t having s u asked k false false
+  unfolding reachedIn firstRows
+  tell-none asked zero l = record { yes = λ z. absurd (true≢false (sym z)); no = λ z. (refl, λ q m e. refl) }
+  tell-none asked (suc k) l = absurd (omega arith)
 
-  -- ── what the table of places says ──
+  -- the row before i, and i
+  pub back : (asked : List Bool) (i : ℕ) (r : Bool) → 0 < i → Tells t having s u asked (suc (i - 1)) false r → Tells t having s u asked i false r
+  back asked i r l h = let e : suc (i - 1) ≡ i = omega arith in subst (λ (n : ℕ). Tells t having s u asked n false r) e h
 
-  -- a role of which no place is read is not carried
-  pub place-none : (places : List ℕ) (k q p : ℕ) → Asking t having s u places → k ≤ rowCount s → p ≡ placeIn places k q → p ≡ 0 → reachedIn t having s u k q ≡ false
-  place-none places k q p a l e z = go (lt-or-ge 0 (newest s u q k))
-    where
-      stands : newest s u q k ≢ 0 → (getD places q 0 ≡ newest s u q (rowCount s)) ⊎ ((getD places q 0 ≡ 0) × (reachedIn t having s u (rowCount s) q ≡ false)) → reachedIn t having s u k q ≡ false
-      stands n (inl f) =
-          let at : getD places q 0 ≡ newest s u q k = f ∙ a .once q k l n in
-          absurd (n (sym at ∙ there (lt-or-ge q 256) (omega (arith, at, newest-within s u q k))))
+  module _ (asked : List Bool) (k : ℕ) (row : Row) (e : row ≡ rowAt s k) where
+    -- the row of a role that is marked is asked
+    asked-row : (q : ℕ) → getD asked q false ≡ true → isRow u q row ≡ true → (eqb (row .user) u && getD asked (row .role) false) ≡ true
+    asked-row q m r =
+        let i = of-true (isRow u q row) r in
+        is-true (eqb (row .user) u && getD asked (row .role) false)
+        (and-both (eqb (row .user) u) (getD asked (row .role) false) (and-left (eqb (row .user) u) (eqb (row .role) q) i) (of-true (getD asked (row .role) false) (ap (λ (n : ℕ). getD asked n false) (isRow-role u q row i) ∙ m)))
+
+    pub tell-other : (r : Bool) → (eqb (row .user) u && getD asked (row .role) false) ≡ false → Tells t having s u asked k false r → Tells t having s u asked (suc k) false r
+    tell-other r n h = record { yes = λ z. yes (h .yes z); no = λ z. (refl, λ q l m. same q m ∙ h .no z .1 q l m) }
+      where
+        same : (q : ℕ) → getD asked q false ≡ true → reachedIn t having s u (suc k) q ≡ reachedIn t having s u k q
+        same q m = go (isRow u q row) refl
+          where
+            go : (b : Bool) → isRow u q row ≡ b → reachedIn t having s u (suc k) q ≡ reachedIn t having s u k q
+            go true r = absurd (true≢false (sym (asked-row q m r) ∙ n))
+            go false r = reached-next k q false (ap (isRow u q) (sym e) ∙ r)
+
+        yes : (false ≡ true) ⊎ SomeReached t having s u asked k → (false ≡ true) ⊎ SomeReached t having s u asked (suc k)
+        yes (inl z) = inl z
+        yes (inr f) = inr (f .0, f .1, f .2, same (f .0) (f .2) ∙ f .3)
+
+    module _ (fits : row .role < 256) (there : (eqb (row .user) u && getD asked (row .role) false) ≡ true) where
+      marked : getD asked (row .role) false ≡ true
+      marked = is-true (getD asked (row .role) false) (and-right (eqb (row .user) u) (getD asked (row .role) false) (of-true (eqb (row .user) u && getD asked (row .role) false) there))
+
+      of-user : row .user ≡ u
+      of-user = eqb-true (row .user) u (is-true (eqb (row .user) u) (and-left (eqb (row .user) u) (getD asked (row .role) false) (of-true (eqb (row .user) u && getD asked (row .role) false) there)))
+
+      own : isRow u (row .role) (rowAt s k) ≡ true
+      own = ap (isRow u (row .role)) (sym e) ∙ is-true (isRow u (row .role) row) (and-both (eqb (row .user) u) (eqb (row .role) (row .role)) (of-true (eqb (row .user) u) (eq-eqb (row .user) u of-user)) (of-true (eqb (row .role) (row .role)) (eq-eqb (row .role) (row .role) refl)))
+
+      pub tell-own : hasRight having (row .role) ≡ true → Tells t having s u asked (suc k) false true
+      tell-own h = record { yes = λ z. inr (row .role, fits, marked, reached-next k (row .role) true own ∙ ap (λ (b : Bool). b || restReaches t having s u k) h); no = λ z. absurd (true≢false z) }
+
+      pub tell-row : Ready t having s u → k < rowCount s → (r : Bool) → hasRight having (row .role) ≡ false → Tells t having s u asked k (restReaches t having s u k) r → Tells t having s u asked (suc k) false r
+      tell-row g l r h f = record { yes = λ z. yes (f .yes z); no = λ z. (refl, λ q m a. none q (f .no z .0) (f .no z .1 q m a)) }
         where
-          there : (q < 256) ⊎ (256 ≤ q) → getD places q 0 ≤ k → getD places q 0 ≡ 0
-          there (inl m) w = place-there places k q q (getD places q 0) refl refl m w ∙ sym e ∙ z
-          there (inr m) w = List·getD-eq-default places 0 {n = q} (omega (arith, a .size))
-      stands n (inr f) =
-          reached-at k q (newest s u q k) refl n
-          ∙ sym (reached-at (rowCount s) q (newest s u q k) (sym (a .once q k l n)) n)
-          ∙ f .1
+          itself : (q : ℕ) → isRow u q (rowAt s k) ≡ true → reachedIn t having s u (suc k) q ≡ restReaches t having s u k
+          itself q i =
+              let at : row .role ≡ q = ap (λ (x : Row). x .role) e ∙ isRow-role u q (rowAt s k) (of-true (isRow u q (rowAt s k)) i) in
+              reached-next k q true i ∙ ap (λ (b : Bool). b || restReaches t having s u k) (ap (hasRight having) (sym at) ∙ h)
 
-      go : (0 < newest s u q k) ⊎ (newest s u q k ≤ 0) → reachedIn t having s u k q ≡ false
-      go (inl m) = stands (λ w. omega arith) (a .left q)
-      go (inr m) = reached-none k q (omega arith)
+          before : (q : ℕ) → isRow u q (rowAt s k) ≡ true → reachedIn t having s u k q ≡ false
+          before q i =
+              let j = of-true (isRow u q (rowAt s k)) i in
+              ap (reachedIn t having s u k) (sym (isRow-role u q (rowAt s k) j)) ∙ g .once k l (isRow-user u q (rowAt s k) j)
 
-  -- a place that is read is that of the role's row
-  pub record Found (k q p : ℕ) : Type 0 where
-    pub before : p ≤ k
-    pub standing : Standing s u (p - 1)
-    pub reached : reachedIn t having s u k q ≡ rowReaches t having s u (p - 1)
+          some : (q : ℕ) → (b : Bool) → isRow u q (rowAt s k) ≡ b → reachedIn t having s u k q ≡ true → reachedIn t having s u (suc k) q ≡ true
+          some q true i a = absurd (true≢false (sym a ∙ before q i))
+          some q false i a = reached-next k q false i ∙ a
 
-  pub place-some : (places : List ℕ) (k q p : ℕ) → Asking t having s u places → k ≤ rowCount s → p ≡ placeIn places k q → p ≢ 0 → Found k q p
-  place-some places k q p a l e z = go (place-of places k q p e z) (a .left q)
-    where
-      go : (q < 256) × (p ≡ getD places q 0) × (p ≤ k) → (getD places q 0 ≡ newest s u q (rowCount s)) ⊎ ((getD places q 0 ≡ 0) × (reachedIn t having s u (rowCount s) q ≡ false)) → Found k q p
-      go f (inr n) = absurd (z (f .1 ∙ n .0))
-      go f (inl n) =
-          let at : p ≡ newest s u q (rowCount s) = f .1 ∙ n in
-          let role : rowAt s (p - 1) .role ≡ q = ap (λ (m : ℕ). rowAt s (m - 1) .role) at ∙ isRow-role u q (rowAt s (newest s u q (rowCount s) - 1)) (row-for s u q (rowCount s) (λ w. z (at ∙ w))) in
-          let one : p ≡ p - 1 + 1 = omega (arith, z) in
-          record {
-            before = f .2;
-            standing = record { within = omega (arith, f .2, z); fits = subst⁻¹ (λ (w : ℕ). w < 256) role (f .0); newest-is = ap (λ (w : ℕ). newest s u w (rowCount s)) role ∙ sym at ∙ one };
-            reached = reached-at k q p (at ∙ sym (newest-keeps s u q k (rowCount s) l (omega (arith, at, f .2)))) z;
-          }
+          yes : (restReaches t having s u k ≡ true) ⊎ SomeReached t having s u asked k → (false ≡ true) ⊎ SomeReached t having s u asked (suc k)
+          yes (inl z) = inr (row .role, fits, marked, itself (row .role) own ∙ z)
+          yes (inr a) = inr (a .0, a .1, a .2, some (a .0) (isRow u (a .0) (rowAt s k)) refl (a .3))
 
-  -- the table has an entry for the row's role
-  pub entry-there : (places : List ℕ) (k w : ℕ) → Asking t having s u places → Standing s u k → w ≡ rowAt s k .role → w < length places
-  entry-there places k w a c e = omega (arith, e, c .fits, a .size)
+          none : (q : ℕ) → restReaches t having s u k ≡ false → reachedIn t having s u k q ≡ false → reachedIn t having s u (suc k) q ≡ false
+          none q z a = go (isRow u q (rowAt s k)) refl
+            where
+              go : (b : Bool) → isRow u q (rowAt s k) ≡ b → reachedIn t having s u (suc k) q ≡ false
+              go true i = itself q i ∙ z
+              go false i = reached-next k q false i ∙ a
 
-  -- a row that does not carry the privilege is not asked again
-  pub asking-less : (places : List ℕ) (k w : ℕ) → Asking t having s u places → Standing s u k → rowReaches t having s u k ≡ false → w ≡ rowAt s k .role → Asking t having s u (set places w 0)
-  asking-less places k w a c e r = record { sized = a .sized; once = a .once; size = simp length-set (a .size); left = left }
-    where
-      left : (q : ℕ) → (getD (set places w 0) q 0 ≡ newest s u q (rowCount s)) ⊎ ((getD (set places w 0) q 0 ≡ 0) × (reachedIn t having s u (rowCount s) q ≡ false))
-      left q = go (eqb w q) refl
-        where
-          other : (q ≡ w → ⊥) → (getD places q 0 ≡ newest s u q (rowCount s)) ⊎ ((getD places q 0 ≡ 0) × (reachedIn t having s u (rowCount s) q ≡ false)) → (getD (set places w 0) q 0 ≡ newest s u q (rowCount s)) ⊎ ((getD (set places w 0) q 0 ≡ 0) × (reachedIn t having s u (rowCount s) q ≡ false))
-          other n (inl f) = inl (getD-set-other places w q 0 0 n ∙ f)
-          other n (inr f) = inr (getD-set-other places w q 0 0 n ∙ f .0, f .1)
-
-          go : (b : Bool) → eqb w q ≡ b → (getD (set places w 0) q 0 ≡ newest s u q (rowCount s)) ⊎ ((getD (set places w 0) q 0 ≡ 0) × (reachedIn t having s u (rowCount s) q ≡ false))
-          go true z =
-              let at : w ≡ q = eqb-true w q z in
-              let here : k + 1 ≡ newest s u q (rowCount s) = sym (c .newest-is) ∙ ap (λ (x : ℕ). newest s u x (rowCount s)) (sym r ∙ at) in
-              let back : k + 1 - 1 ≡ k = omega arith in
-              inr (ap (λ (x : ℕ). getD (set places w 0) x 0) (sym at) ∙ getD-set-same places w 0 0 (entry-there places k w a c r), reached-at (rowCount s) q (k + 1) here (λ x. omega arith) ∙ ap (rowReaches t having s u) back ∙ e)
-          go false z = other (λ x. eqb-false w q z (sym x)) (a .left q)
-
--- on sound tables, with every role in its place
-pub asking-begins : (t full : Tables) (having : List Bool) (s : List ℕ) (u : ℕ) (places : List ℕ) → Sound full s → Placed s u places → Asking t having s u places
-asking-begins t full having s u places h p = record { sized = sound-sized full s h; once = λ q k l z. newest-stays full s h u q k (rowCount s) z l (omega arith); size = p .size; left = λ q. inl (p .each q) }
-
--- ── what code finds, as the row's and the condition's answer ──
+-- ── more is marked ──
 
 module _ (rules kinds : List ℕ) (having : List Bool) (s : List ℕ) (u : ℕ) where
   abbrev tables : Tables
   tables = without-rights rules kinds
 
-  -- the row's own membership conditions, as code reads them
-  own-conditions : (k m : ℕ) (row : Row) (cs : List ℕ) → row ≡ rowAt s k → take m cs ≡ membership (ruleNumbered (policyOf (without-rights rules [])) (row .rule)) → take m cs ≡ membership (ruleNumbered (policyOf tables) (rowAt s k .rule))
-  unfolding policyOf
-  own-conditions k m row cs e f = f ∙ ap (λ (r : Row). membership (ruleNumbered (policyOf tables) (r .rule))) e
+  abbrev asks : ℕ → List ℕ
+  asks c = rolesAsked (policyOf (without-rights [] kinds)) (meant c)
 
-  pub row-own : (k : ℕ) (row : Row) → row ≡ rowAt s k → hasRight having (row .role) ≡ true → true ≡ rowReaches tables having s u k
-  unfolding rowReaches
-  row-own k row e d = sym (ap (λ (b : Bool). b || any (reachedIn tables having s u k) (restsOn (policyOf tables) (rowAt s k))) (ap (λ (r : Row). hasRight having (r .role)) (sym e) ∙ d))
+  module _ (k : ℕ) (row : Row) (e : row ≡ rowAt s k) (a b : List Bool) where
+    abbrev ownConditions : List ℕ
+    ownConditions = membership (ruleNumbered (policyOf (without-rights rules [])) (row .rule))
 
-  pub row-hit : (k m i : ℕ) (row : Row) (cs : List ℕ) → row ≡ rowAt s k → take m cs ≡ membership (ruleNumbered (policyOf (without-rights rules [])) (row .rule)) → i < m → i < length cs → conditionReaches tables having s u k (getD cs i 0) ≡ true → true ≡ rowReaches tables having s u k
-  row-hit k m i row cs e f h l c =
-      let some : any (conditionReaches tables having s u k) (take m cs) ≡ true = any-take-hit (conditionReaches tables having s u k) cs 0 m i h l c in
-      sym (row-conditions tables having s u k ∙ or-later (hasRight having (rowAt s k .role)) (any (conditionReaches tables having s u k) (membership (ruleNumbered (policyOf tables) (rowAt s k .rule)))) (ap (any (conditionReaches tables having s u k)) (sym (own-conditions k m row cs e f)) ∙ some))
+    rests-asks : restsOn (policyOf tables) (rowAt s k) ≡ joined asks ownConditions
+    unfolding restsOn policyOf
+    rests-asks = ap (restsOn (policyOf tables)) (sym e) ∙ same ownConditions
+      where
+        same : (cs : List ℕ) → joined (λ (c : ℕ). rolesAsked (policyOf tables) (meant c)) cs ≡ joined asks cs
+        same cs = λ i. joined (λ (c : ℕ). roles-same (policyOf tables) (policyOf (without-rights [] kinds)) refl (meant c) i) cs
 
-  pub row-none : (k m i : ℕ) (row : Row) (cs : List ℕ) → row ≡ rowAt s k → take m cs ≡ membership (ruleNumbered (policyOf (without-rights rules [])) (row .rule)) → i ≤ m → m ≤ i
-      → hasRight having (row .role) ≡ false → any (conditionReaches tables having s u k) (take i cs) ≡ false → rowReaches tables having s u k ≡ false
-  row-none k m i row cs e f h₁ h₂ d c =
-      let at : i ≡ m = omega arith in
-      let none : any (conditionReaches tables having s u k) (membership (ruleNumbered (policyOf tables) (rowAt s k .rule))) ≡ false = ap (any (conditionReaches tables having s u k)) (sym (own-conditions k m row cs e f) ∙ ap (λ (n : ℕ). take n cs) (sym at)) ∙ c in
-      row-conditions tables having s u k ∙ (λ j. (ap (λ (r : Row). hasRight having (r .role)) (sym e) ∙ d) j || none j)
+    -- a role that one of the conditions asks for
+    named : (q : ℕ) → reachedIn tables having s u k q ≡ true → (j : ℕ) × (j < length ownConditions) × List·Memᴰ q (asks (getD ownConditions j 0)) → restReaches tables having s u k ≡ true
+    unfolding restReaches
+    named q r h = is-true (any (reachedIn tables having s u k) (restsOn (policyOf tables) (rowAt s k))) (of-any (reachedIn tables having s u k) q (restsOn (policyOf tables) (rowAt s k)) (subst⁻¹ (List·Memᴰ q) rests-asks (of-joined asks ownConditions (getD ownConditions (h .0) 0) q (at-place ownConditions (h .0) 0 (h .1)) (h .2))) (of-true (reachedIn tables having s u k q) r))
 
-  -- the condition's roles, as code reads them
-  asked-here : (n c : ℕ) (roles : List ℕ) → take n roles ≡ rolesAsked (policyOf (without-rights [] kinds)) (meant c) → take n roles ≡ rolesAsked (policyOf tables) (meant c)
-  unfolding policyOf
-  asked-here n c roles e = e ∙ roles-same (policyOf (without-rights [] kinds)) (policyOf tables) refl (meant c)
+    some-grown : Grown kinds a b ownConditions (length ownConditions) → SomeReached tables having s u b k → (restReaches tables having s u k ≡ true) ⊎ SomeReached tables having s u a k
+    some-grown g f = go (g .only (f .0) (f .1) (f .2))
+      where
+        go : (getD a (f .0) false ≡ true) ⊎ ((j : ℕ) × (j < length ownConditions) × List·Memᴰ (f .0) (asks (getD ownConditions j 0))) → (restReaches tables having s u k ≡ true) ⊎ SomeReached tables having s u a k
+        go (inl m) = inr (f .0, f .1, m, f .3)
+        go (inr m) = inl (named (f .0) (f .3) m)
 
-  pub condition-hit : (k n c j : ℕ) (roles : List ℕ) → take n roles ≡ rolesAsked (policyOf (without-rights [] kinds)) (meant c) → length roles ≡ 4 → n ≤ 4 → j < n → reachedIn tables having s u k (getD roles j 0) ≡ true → true ≡ conditionReaches tables having s u k c
-  unfolding conditionReaches
-  condition-hit k n c j roles e size few h r =
-      sym (ap (any (reachedIn tables having s u k)) (sym (asked-here n c roles e)) ∙ any-take-hit (reachedIn tables having s u k) roles 0 n j h (omega arith) r)
+    -- some of what the row rests on is marked
+    pub tell-part : (r : Bool) → Grown kinds a b ownConditions (length ownConditions) → Tells tables having s u b k (restReaches tables having s u k) r → Tells tables having s u a k (restReaches tables having s u k) r
+    tell-part r g h = record { yes = λ z. yes (h .yes z); no = λ z. (h .no z .0, λ q l m. h .no z .1 q l (g .keeps q m)) }
+      where
+        yes : (restReaches tables having s u k ≡ true) ⊎ SomeReached tables having s u b k → (restReaches tables having s u k ≡ true) ⊎ SomeReached tables having s u a k
+        yes (inl z) = inl z
+        yes (inr f) = some-grown g f
 
-  pub condition-none : (k n c j : ℕ) (roles : List ℕ) → take n roles ≡ rolesAsked (policyOf (without-rights [] kinds)) (meant c) → j ≤ n → n ≤ j → any (reachedIn tables having s u k) (take j roles) ≡ false → false ≡ conditionReaches tables having s u k c
-  unfolding conditionReaches
-  condition-none k n c j roles e h₁ h₂ a =
-      let at : j ≡ n = omega arith in
-      sym (ap (any (reachedIn tables having s u k)) (sym (asked-here n c roles e) ∙ ap (λ (m : ℕ). take m roles) (sym at)) ∙ a)
+    -- all of it is
+    pub tell-all : Ready tables having s u → k ≤ rowCount s → (r : Bool) → Grown kinds a b ownConditions (length ownConditions) → ((j : ℕ) → j < length ownConditions → Answered kinds b (getD ownConditions j 0)) → Tells tables having s u b k false r → Tells tables having s u a k (restReaches tables having s u k) r
+    unfolding restReaches
+    tell-all y l r g f h = record { yes = λ z. yes (h .yes z); no = λ z. (none (h .no z .1), λ q m o. h .no z .1 q m (g .keeps q o)) }
+      where
+        yes : (false ≡ true) ⊎ SomeReached tables having s u b k → (restReaches tables having s u k ≡ true) ⊎ SomeReached tables having s u a k
+        yes (inl z) = absurd (true≢false (sym z))
+        yes (inr x) = some-grown g x
+
+        none : NoneReached tables having s u b k → restReaches tables having s u k ≡ false
+        none n = is-false (any (reachedIn tables having s u k) (restsOn (policyOf tables) (rowAt s k))) (not-of (any (reachedIn tables having s u k) (restsOn (policyOf tables) (rowAt s k))) (λ x. hit (any-of (reachedIn tables having s u k) (restsOn (policyOf tables) (rowAt s k)) x)))
+          where
+            missed : (q : ℕ) → (q < 256) ⊎ (256 ≤ q) → (j : ℕ) × (j < length ownConditions) × List·Memᴰ q (asks (getD ownConditions j 0)) → reachedIn tables having s u k q ≡ false
+            missed q (inl m) o = n q m (f (o .0) (o .1) q m (o .2))
+            missed q (inr m) o = reached-beyond tables having s u y k q l m
+
+            placed : (q : ℕ) → (c : ℕ) × List·Memᴰ c ownConditions × List·Memᴰ q (asks c) → (j : ℕ) × (j < length ownConditions) × List·Memᴰ q (asks (getD ownConditions j 0))
+            placed q o = let p = place-of ownConditions 0 (o .0) (o .1) in (p .0, p .1, subst (λ (c : ℕ). List·Memᴰ q (asks c)) (p .2) (o .2))
+
+            hit : (q : ℕ) × List·Memᴰ q (restsOn (policyOf tables) (rowAt s k)) × T (reachedIn tables having s u k q) → ⊥
+            hit x = refute (reachedIn tables having s u k (x .0)) (of-false (reachedIn tables having s u k (x .0)) (missed (x .0) (lt-or-ge (x .0) 256) (placed (x .0) (joined-of asks ownConditions (x .0) (subst (List·Memᴰ (x .0)) rests-asks (x .1)))))) (x .2)
+
+-- on sound tables
+pub ready : (t full : Tables) (having : List Bool) (s : List ℕ) (u : ℕ) → Sound full s → Ready t having s u
+ready t full having s u h =
+    record {
+      sized = sound-sized full s h;
+      fits = roles-fit full s h;
+      once = λ i l e. reached-none t having s u i (rowAt s i .role) (first-for full s h u (rowAt s i .role) i l (own i e));
+    }
+  where
+    own : (i : ℕ) → rowAt s i .user ≡ u → isRow u (rowAt s i .role) (rowAt s i) ≡ true
+    own i e = λ j. eq-eqb (rowAt s i .user) u e j && eq-eqb (rowAt s i .role) (rowAt s i .role) refl j
+
+-- ── one role is asked at first ──
+
+unmarked : (n q : ℕ) → getD (replicate n false) q false ≡ false
+unmarked zero q = refl
+unmarked (suc n) zero = refl
+unmarked (suc n) (suc q) = unmarked n q
+
+module _ (w : ℕ) (l : w < 256) where
+  pub alone-size : length (set (replicate 384 false) w true) ≡ 384
+  alone-size = length-set (replicate 384 false) w true ∙ length-replicate 384 false
+
+  only-one : (q : ℕ) → getD (set (replicate 384 false) w true) q false ≡ true → w ≡ q
+  only-one q h = go (mark-only (replicate 384 false) w (omega (arith, length-replicate 384 false)) q h)
+    where
+      go : (w ≡ q) ⊎ (getD (replicate 384 false) q false ≡ true) → w ≡ q
+      go (inl e) = e
+      go (inr m) = absurd (true≢false (sym m ∙ unmarked 384 q))
+
+  pub alone-closed : (kinds : List ℕ) → Closed kinds (set (replicate 384 false) w true)
+  alone-closed kinds c k m = absurd (omega (arith, only-one c m))
+
+  pub alone-tells : (t : Tables) (having : List Bool) (s : List ℕ) (u k : ℕ) (r : Bool) → Tells t having s u (set (replicate 384 false) w true) k false r → r ≡ reachedIn t having s u k w
+  alone-tells t having s u k true h = go (h .yes refl)
+    where
+      go : (false ≡ true) ⊎ SomeReached t having s u (set (replicate 384 false) w true) k → true ≡ reachedIn t having s u k w
+      go (inl z) = absurd (true≢false (sym z))
+      go (inr f) = sym (f .3) ∙ ap (reachedIn t having s u k) (sym (only-one (f .0) (f .2)))
+  alone-tells t having s u k false h = sym (h .no refl .1 w l (mark-here (replicate 384 false) w (omega (arith, length-replicate 384 false)) w refl))

@@ -1,17 +1,22 @@
 // The calls that only ask, on sound tables, for code that can show that they are sound. Each equals the model's call.
 ghost use mathlib.Core.Path.{_≡_};
-ghost use mathlib.Core.Bool.{cond};
-ghost use Prim.Native.Nat.{_<_};
+ghost use mathlib.Core.Bool.{false, _&&_, cond};
+ghost use Prim.Native.Nat.{_<_, _≤_};
+ghost use lib.Dec.{eqb};
+ghost use lib.ListN.{length, getD};
+ghost use Rattle.model.specs.Limits.{roles};
 ghost use Rattle.model.specs.Layout.{rowCount};
 ghost use Rattle.model.specs.Calls.{invoke as invokeCall, effective as effectiveCall, chain as chainCall};
 ghost use Rattle.model.specs.Words.{Sound};
 ghost use Rattle.table.specs.Entries.{without-rights};
 ghost use Rattle.inner.specs.Lent.{lent, Answers, AnswersWith};
-ghost use Rattle.query.specs.Reached.{conditionReaches, rowReaches, Standing, Asking};
+ghost use Rattle.rests.specs.Marked.{Closed};
+ghost use Rattle.query.specs.Reached.{restReaches, Ready, Tells};
 use model::Answer;
 use model::PRIVILEGES;
 use model::ROLES;
 use model::ROW_COUNT;
+use model::Row;
 use model::USERS;
 
 const LIST_SIZE: usize = 256;
@@ -46,70 +51,71 @@ pub fn invoke(
     told(direct::may_invoke(rights, state, user, privilege))
 }
 
-// Row k carries the privilege. The role of a row that is found not to carry it is taken out of the places, so that the row is not
-// asked again: a rule may name one role eight times.
-fn row_reaches(
+// The row is the user's, and its role is asked.
+fn is_asked(row: Row, user: u16, asked: &[bool]) -> bool
+    requires { ⌜ (length (now asked) ≡ 384) × (row .role < roles) ⌝ }
+    ensures { λ r. ⌜ r ≡ (eqb (row .user) user && getD (now (asked .entry)) (row .role) false) ⌝ }
+{
+    if row.user == user {
+        return asked[table::wide(row.role)];
+    }
+    false
+}
+
+// Some role that is asked carries the privilege, in the first k rows. A row rests on earlier rows only, so one pass down the rows meets
+// each role after all that ask for it, and no row is asked twice: a rule may name one role eight times.
+fn roles_reach(
     rules: &[u16],
     kinds: &[u16],
     having: &[bool; 256],
     state: &[u16],
-    places: &mut [u16],
+    asked: &mut [bool],
     k: usize,
     user: u16,
 ) -> bool
-    requires { ⌜ Standing (now state) user k × Asking (without-rights (now rules) (now kinds)) (now having) (now state) user (now places) ⌝ }
-    ensures answer { λ r. ⌜ r ≡ rowReaches (without-rights (now (rules .entry)) (now (kinds .entry))) (now (having .entry)) (now (state .entry)) user k ⌝ }
-    ensures asking { λ r. ⌜ Asking (without-rights (now (rules .entry)) (now (kinds .entry))) (now (having .entry)) (now (state .entry)) user (now (places .exit)) ⌝ }
+    requires { ⌜ Ready (without-rights (now rules) (now kinds)) (now having) (now state) user × (k ≤ rowCount (now state)) × (length (now asked) ≡ 384) × Closed (now kinds) (now asked) ⌝ }
+    ensures { λ r. ⌜ Tells (without-rights (now (rules .entry)) (now (kinds .entry))) (now (having .entry)) (now (state .entry)) user (now (asked .entry)) k false r ⌝ }
 {
-    let row = table::row_at(state, k);
-    if direct::has_right(having, row.role) {
-        return true;
+    let mut i = k;
+    while 0 < i {
+        i -= 1;
+        let row = table::row_at(state, i);
+        if !is_asked(row, user, asked) {
+            continue;
+        }
+        if direct::has_right(having, row.role) {
+            return true;
+        }
+        if !rests::ask_row(rules, row, asked) {
+            return certificates_reach(rules, kinds, having, state, asked, i, user);
+        }
     }
-    let own = rests::membership_of(rules, row);
+    false
+}
+
+// Some role that is asked, or on which row k rests, carries the privilege, in the first k rows. The kinds that the row names ask for
+// their prerequisite roles.
+fn certificates_reach(
+    rules: &[u16],
+    kinds: &[u16],
+    having: &[bool; 256],
+    state: &[u16],
+    asked: &mut [bool],
+    k: usize,
+    user: u16,
+) -> bool
+    requires { ⌜ Ready (without-rights (now rules) (now kinds)) (now having) (now state) user × (k < rowCount (now state)) × (length (now asked) ≡ 384) × Closed (now kinds) (now asked) ⌝ }
+    ensures { λ r. ⌜ Tells (without-rights (now (rules .entry)) (now (kinds .entry))) (now (having .entry)) (now (state .entry)) user (now (asked .entry)) k (restReaches (without-rights (now (rules .entry)) (now (kinds .entry))) (now (having .entry)) (now (state .entry)) user k) r ⌝ }
+{
+    let own = rests::membership_of(rules, table::row_at(state, k));
     let conditions = own.conditions;
     let m = own.count;
     let mut i: usize = 0;
     while i < m {
-        let condition = conditions[i];
+        rests::ask_condition(kinds, conditions[i], asked);
         i += 1;
-        if condition_reaches(rules, kinds, having, state, places, k, user, condition) {
-            return true;
-        }
     }
-    places[table::wide(row.role)] = 0;
-    false
-}
-
-// Some role that the condition asks for carries the privilege, in the first k rows.
-fn condition_reaches(
-    rules: &[u16],
-    kinds: &[u16],
-    having: &[bool; 256],
-    state: &[u16],
-    places: &mut [u16],
-    k: usize,
-    user: u16,
-    condition: u16,
-) -> bool
-    requires { ⌜ (k < rowCount (now state)) × Asking (without-rights (now rules) (now kinds)) (now having) (now state) user (now places) ⌝ }
-    ensures answer { λ r. ⌜ r ≡ conditionReaches (without-rights (now (rules .entry)) (now (kinds .entry))) (now (having .entry)) (now (state .entry)) user k condition ⌝ }
-    ensures asking { λ r. ⌜ Asking (without-rights (now (rules .entry)) (now (kinds .entry))) (now (having .entry)) (now (state .entry)) user (now (places .exit)) ⌝ }
-{
-    let asked = rests::roles_asked(kinds, condition);
-    let roles = asked.roles;
-    let n = asked.count;
-    let mut j: usize = 0;
-    while j < n {
-        let p = rests::place_in(places, k, roles[j]);
-        j += 1;
-        if p == 0 {
-            continue;
-        }
-        if row_reaches(rules, kinds, having, state, places, p - 1, user) {
-            return true;
-        }
-    }
-    false
+    roles_reach(rules, kinds, having, state, asked, k, user)
 }
 
 pub fn effective(
@@ -133,13 +139,14 @@ pub fn effective(
     if PRIVILEGES <= privilege {
         return inner::refused(3);
     }
-    let mut places = rests::places_of(state, user);
-    let p = rests::place_in(&places, table::wide(state[ROW_COUNT]), role);
-    if p == 0 {
+    let k = table::wide(state[ROW_COUNT]);
+    if !table::is_active(state, k, user, role) {
         return inner::refused(12);
     }
     let having = direct::roles_having(rights, privilege);
-    told(row_reaches(rules, kinds, &having, state, &mut places, p - 1, user))
+    let mut asked = [false; 384];
+    asked[table::wide(role)] = true;
+    told(roles_reach(rules, kinds, &having, state, &mut asked, k, user))
 }
 
 // A row rests on earlier rows, so no role is written twice and the list has room for all.

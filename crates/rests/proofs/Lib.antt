@@ -1,4 +1,4 @@
 pub mod Newest
 pub mod Asking
 pub mod Stepping
-pub mod Placing
+pub mod Marking

@@ -41,20 +41,6 @@ module _ (s : List ℕ) (u q : ℕ) where
       go true h = omega arith
       go false h = omega arith
 
-  -- a row for the role that is the newest of many is the newest of fewer, as long as it is one of them
-  pub newest-keeps : (k n : ℕ) → k ≤ n → newest s u q n ≤ k → newest s u q k ≡ newest s u q n
-  unfolding newest
-  newest-keeps k zero l h = let e : k ≡ 0 = omega arith in ap (newest s u q) e
-  newest-keeps k (suc n) l h = go (lt-or-ge n k) (newest-keeps k n)
-    where
-      before : (b : Bool) → k ≤ n → cond b (suc n) (newest s u q n) ≤ k → (k ≤ n → newest s u q n ≤ k → newest s u q k ≡ newest s u q n) → newest s u q k ≡ cond b (suc n) (newest s u q n)
-      before true m w f = absurd (omega arith)
-      before false m w f = f m w
-
-      go : (n < k) ⊎ (k ≤ n) → (k ≤ n → newest s u q n ≤ k → newest s u q k ≡ newest s u q n) → newest s u q k ≡ newest s u q (suc n)
-      go (inl m) f = let e : k ≡ suc n = omega arith in ap (newest s u q) e
-      go (inr m) f = before (isRow u q (rowAt s n)) m h f
-
   -- the newest row is the user's, for the role
   pub row-for : (k : ℕ) → newest s u q k ≢ 0 → T (isRow u q (rowAt s (newest s u q k - 1)))
   unfolding newest

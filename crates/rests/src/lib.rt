@@ -1,15 +1,15 @@
 // What an active row rests on: the conditions of its own rule, the roles that they ask for, and where such a role stands.
 ghost use mathlib.Core.Path.{_≡_};
 ghost use mathlib.Core.List.{[]};
-ghost use Prim.Native.Nat.{_≤_};
+ghost use Prim.Native.Nat.{_≤_, _<_};
 ghost use lib.ListN.{length, getD, take};
 ghost use Rattle.model.specs.Limits.{roles, stateSize, mostRows};
 ghost use Rattle.model.specs.Layout.{policyOf};
 ghost use Rattle.model.specs.Conditions.{meant, membership, ruleNumbered, rolesAsked, restsOn};
-ghost use Rattle.table.specs.Entries.{without-rights, Sized};
-ghost use Rattle.rests.specs.Newest.{newest, RolesFit, Placed, placeIn};
+ghost use Rattle.table.specs.Entries.{without-rights};
+ghost use Rattle.rests.specs.Newest.{newest};
+ghost use Rattle.rests.specs.Marked.{Closed, Known, ConditionAsked, RowAsked};
 use model::ROLES;
-use model::ROW_COUNT;
 use model::Row;
 
 // The roles that a condition asks for: the first `count` of four.
@@ -91,34 +91,65 @@ pub fn newest_row(state: &[u16], k: usize, user: u16, role: u16) -> usize
     0
 }
 
-// Where each role of the user stands: one more than its row's place, or 0. One pass serves every row that is asked for afterwards.
-pub fn places_of(state: &[u16], user: u16) -> [u16; 256]
-    requires { ⌜ Sized (now state) × RolesFit (now state) ⌝ }
-    ensures { λ r. ⌜ Placed (now (state .entry)) user r ⌝ }
+// The condition is asked, if that takes no more than its own mark: a role is marked, a kind that is marked has asked already, a fact asks
+// for nothing. Says whether it is.
+fn ask_known(c: u16, asked: &mut [bool]) -> bool
+    requires { ⌜ length (now asked) ≡ 384 ⌝ }
+    ensures { λ r. ⌜ Known (now (asked .entry)) (now (asked .exit)) c r ⌝ }
 {
-    let mut places = [0u16; 256];
-    let n = table::wide(state[ROW_COUNT]);
-    let mut i: usize = 0;
-    while i < n {
-        let row = table::row_at(state, i);
-        i += 1;
-        if row.user == user {
-            places[table::wide(row.role)] = i as u16;
-        }
+    if c < 256 {
+        asked[table::wide(c)] = true;
+        return true;
     }
-    places
+    if c < 384 {
+        return asked[table::wide(c)];
+    }
+    true
 }
 
-// The place of a role that is noted to stand in the first k rows: one more than it, or 0.
-pub fn place_in(places: &[u16], k: usize, role: u16) -> usize
-    requires { ⌜ length (now places) ≡ roles ⌝ }
-    ensures { λ r. ⌜ r ≡ placeIn (now (places .entry)) k role ⌝ }
+// A kind asks for its prerequisite roles, and is marked. A role out of range never stands.
+fn ask_kind(kinds: &[u16], c: u16, asked: &mut [bool])
+    requires { ⌜ (length (now asked) ≡ 384) × (256 ≤ c) × (c < 384) × Closed (now kinds) (now asked) ⌝ }
+    ensures { λ r. ⌜ ConditionAsked (now (kinds .entry)) (now (asked .entry)) (now (asked .exit)) c ⌝ }
 {
-    if role < ROLES {
-        let p = table::wide(places[table::wide(role)]);
-        if p <= k {
-            return p;
+    let named = roles_asked(kinds, c);
+    let roles = named.roles;
+    let n = named.count;
+    let mut j: usize = 0;
+    while j < n {
+        let role = roles[j];
+        j += 1;
+        if role < ROLES {
+            asked[table::wide(role)] = true;
         }
     }
-    0
+    asked[table::wide(c)] = true;
+}
+
+pub fn ask_condition(kinds: &[u16], c: u16, asked: &mut [bool])
+    requires { ⌜ (length (now asked) ≡ 384) × Closed (now kinds) (now asked) ⌝ }
+    ensures { λ r. ⌜ ConditionAsked (now (kinds .entry)) (now (asked .entry)) (now (asked .exit)) c ⌝ }
+{
+    if ask_known(c, asked) {
+        return;
+    }
+    ask_kind(kinds, c, asked);
+}
+
+// What the row rests on is asked, up to the first kind that has not asked yet. Says whether there is none.
+pub fn ask_row(rules: &[u16], row: Row, asked: &mut [bool]) -> bool
+    requires { ⌜ length (now asked) ≡ 384 ⌝ }
+    ensures { λ r. ⌜ RowAsked (membership (ruleNumbered (policyOf (without-rights (now (rules .entry)) [])) (row .rule))) (now (asked .entry)) (now (asked .exit)) r ⌝ }
+{
+    let own = membership_of(rules, row);
+    let conditions = own.conditions;
+    let m = own.count;
+    let mut i: usize = 0;
+    while i < m {
+        if !ask_known(conditions[i], asked) {
+            return false;
+        }
+        i += 1;
+    }
+    true
 }
