@@ -60,31 +60,34 @@ prerequisites-marked has p k n row stands r e read size least h =
     ∙ ap (λ (x : Kind). all (roleMarked has) (prerequisiteRoles x)) read
     ∙ ap (λ (b : Bool). b && all (roleMarked has) (prerequisiteRoles (kindNumbered p k))) (sym e)
 
+-- the first n conditions of a rule, judged by the kinds alone
+pub first-by : (has : ℕ → Bool) (kinds s : List ℕ) (n m : ℕ) (cs : List ℕ) (r : Bool) → length cs ≡ 8 → n ≡ min m 8
+    → r ≡ allHoldBy has (worldAt [] kinds s) (take n cs) → r ≡ allHoldBy has (worldAt [] kinds s) (take m cs)
+first-by has kinds s n m cs r size least h =
+    h
+    ∙ ap (λ (k : ℕ). allHoldBy has (worldAt [] kinds s) (take k cs)) least
+    ∙ ap (λ (l : List ℕ). allHoldBy has (worldAt [] kinds s) l) (take-least m 8 cs size)
+
 module _ (has : ℕ → Bool) (rules kinds s : List ℕ) where
-  -- the first n conditions of a rule, judged by the kinds alone
-  conditions-by : (n m : ℕ) (cs : List ℕ) (r : Bool) → length cs ≡ 8 → n ≡ min m 8 → r ≡ allHoldBy has (worldAt [] kinds s) (take n cs) → r ≡ allHoldBy has (worldAt rules kinds s) (take m cs)
+  any-rules : (cs : List ℕ) → allHoldBy has (worldAt [] kinds s) cs ≡ allHoldBy has (worldAt rules kinds s) cs
   unfolding policyOf
-  conditions-by n m cs r size least h =
-      h
-      ∙ ap (λ (k : ℕ). allHoldBy has (worldAt [] kinds s) (take k cs)) least
-      ∙ ap (λ (l : List ℕ). allHoldBy has (worldAt [] kinds s) l) (take-least m 8 cs size)
-      ∙ (λ i. all (λ (c : ℕ). by-same has (policyOf (without-rights [] kinds)) (policyOf (without-rights rules kinds)) (decode s) refl (meant c) i) (take m cs))
+  any-rules cs = λ i. all (λ (c : ℕ). by-same has (policyOf (without-rights [] kinds)) (policyOf (without-rights rules kinds)) (decode s) refl (meant c) i) cs
 
   pub membership-by : (n : ℕ) (rule : Rule) (u q i : ℕ) (r : Bool) → rule ≡ ruleNumbered (policyOf (without-rights rules [])) i → length (rule .conditions) ≡ 8 → n ≡ min (rule .m) 8
       → r ≡ allHoldBy has (worldAt [] kinds s) (take n (rule .conditions)) → r ≡ supportedBy has (worldAt rules kinds s) (record { user = u; role = q; rule = i })
   unfolding supportedBy policyOf
-  membership-by n rule u q i r e size least h = conditions-by n (rule .m) (rule .conditions) r size least h ∙ ap (λ (x : Rule). allHoldBy has (worldAt rules kinds s) (membership x)) e
+  membership-by n rule u q i r e size least h = first-by has kinds s n (rule .m) (rule .conditions) r size least h ∙ any-rules (membership rule) ∙ ap (λ (x : Rule). allHoldBy has (worldAt rules kinds s) (membership x)) e
 
   -- a rule for another role is not satisfied, and one for the role is if its conditions hold
   pub another-by : (q : ℕ) (rule read : Rule) → read ≡ rule → eqb (read .target) q ≡ false → false ≡ satisfiedBy has (worldAt rules kinds s) q rule
   unfolding satisfiedBy
   another-by q rule read e h = sym (ap (λ (x : Rule). eqb (x .target) q && allHoldBy has (worldAt rules kinds s) (activating x)) (sym e) ∙ ap (λ (b : Bool). b && allHoldBy has (worldAt rules kinds s) (activating read)) h)
 
-  pub rule-by : (q n : ℕ) (rule read : Rule) (r : Bool) → read ≡ rule → eqb (read .target) q ≡ true → length (read .conditions) ≡ 8 → n ≡ min (read .n) 8
-      → r ≡ allHoldBy has (worldAt [] kinds s) (take n (read .conditions)) → r ≡ satisfiedBy has (worldAt rules kinds s) q rule
+  pub rule-by : (q : ℕ) (rule read : Rule) (r : Bool) → read ≡ rule → eqb (read .target) q ≡ true → r ≡ allHoldBy has (worldAt [] kinds s) (activating read) → r ≡ satisfiedBy has (worldAt rules kinds s) q rule
   unfolding satisfiedBy
-  rule-by q n rule read r e h size least k =
-      conditions-by n (read .n) (read .conditions) r size least k
+  rule-by q rule read r e h k =
+      k
+      ∙ any-rules (activating read)
       ∙ ap (λ (b : Bool). b && allHoldBy has (worldAt rules kinds s) (activating read)) (sym h)
       ∙ ap (λ (x : Rule). eqb (x .target) q && allHoldBy has (worldAt rules kinds s) (activating x)) e
 

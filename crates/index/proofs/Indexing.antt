@@ -11,9 +11,8 @@ use lib.ListN.{length, getD, set, replicate, length-set, length-replicate}
 use lib.Seq.{getD-set-same, getD-set-other}
 use borrow.Author.Tests.{eq-eqb, ne-eqb}
 use Rattle.model.specs.Layout.{decode, rowCount, certificateCount, rowFrom, rowNumbers, certificateFrom, certificateNumbers}
-use Rattle.model.specs.Conditions.{isRow, active, someStands, supported, satisfied}
+use Rattle.model.specs.Conditions.{isRow, active, someStands, supported}
 use Rattle.model.specs.Records.{World}
-use Rattle.model.specs.declared.Rule.{Rule}
 use Rattle.model.specs.declared.Row.{Row}
 use Rattle.model.specs.declared.Certificate.{Certificate}
 use Rattle.model.proofs.Tests.{any-append}
@@ -21,9 +20,9 @@ use Rattle.table.specs.Entries.{rowAt, firstRows, certificateAt, firstCertifica
 use Rattle.table.proofs.Entries.{entry-member, entries-more}
 use Rattle.marks.specs.Marks.{bit, marked, Marked}
 use Rattle.marks.proofs.Bits.{eq-or-ne}
-use Rattle.index.specs.Marked.{Room, block, supportedBy, satisfiedBy}
-use Rattle.index.specs.Indexed.{InRange, baseOf, Apart, Numbered, Alone, Indexed}
-use Rattle.index.proofs.Holding.{Says, supported-said, satisfied-said}
+use Rattle.index.specs.Marked.{Room, block, supportedBy}
+use Rattle.index.specs.Indexed.{InRange, baseOf, Apart, Numbered, Indexed}
+use Rattle.index.proofs.Holding.{Says, supported-said}
 
 -- ── ranges, by places ──
 
@@ -100,36 +99,9 @@ numbering-end s numbers few n =
         go zero e = omega (arith, e)
         go (suc x) e = omega (arith, n .owner u (omega (arith, e)) .0)
 
--- one user alone
-pub alone : (v : ℕ) → v < 4096 → Alone v (set (zeros 4096) v 1)
-alone v h = record { size = length-set (zeros 4096) v 1 ∙ length-zeros 4096; apart = apart; most = most; own = getD-set-same (zeros 4096) v 1 0 (omega (arith, length-zeros 4096)) }
-  where
-    number : (u : ℕ) → ((u ≡ v) × (getD (set (zeros 4096) v 1) u 0 ≡ 1)) ⊎ (getD (set (zeros 4096) v 1) u 0 ≡ 0)
-    number u = go (eq-or-ne u v)
-      where
-        go : (u ≡ v) ⊎ (u ≢ v) → ((u ≡ v) × (getD (set (zeros 4096) v 1) u 0 ≡ 1)) ⊎ (getD (set (zeros 4096) v 1) u 0 ≡ 0)
-        go (inl q) = inl (q, ap (λ (x : ℕ). getD (set (zeros 4096) v 1) x 0) q ∙ getD-set-same (zeros 4096) v 1 0 (omega (arith, length-zeros 4096)))
-        go (inr q) = inr (getD-set-other (zeros 4096) v u 1 0 q ∙ getD-zeros 4096 u)
-
-    apart : Apart (set (zeros 4096) v 1)
-    apart u w p e = go (number u) (number w)
-      where
-        go : ((u ≡ v) × (getD (set (zeros 4096) v 1) u 0 ≡ 1)) ⊎ (getD (set (zeros 4096) v 1) u 0 ≡ 0)
-            → ((w ≡ v) × (getD (set (zeros 4096) v 1) w 0 ≡ 1)) ⊎ (getD (set (zeros 4096) v 1) w 0 ≡ 0) → u ≡ w
-        go (inl a) (inl b) = a .0 ∙ sym (b .0)
-        go (inl a) (inr b) = absurd (omega (arith, a .1, b, e))
-        go (inr a) b = absurd (omega (arith, a, p))
-
-    most : (u : ℕ) → getD (set (zeros 4096) v 1) u 0 ≤ 1
-    most u = go (number u)
-      where
-        go : ((u ≡ v) × (getD (set (zeros 4096) v 1) u 0 ≡ 1)) ⊎ (getD (set (zeros 4096) v 1) u 0 ≡ 0) → getD (set (zeros 4096) v 1) u 0 ≤ 1
-        go (inl a) = omega (arith, a .1)
-        go (inr a) = omega (arith, a)
-
 -- ── marks ──
 
-nothing-marked : (n x : ℕ) → marked (zeros n) x ≡ false
+pub nothing-marked : (n x : ℕ) → marked (zeros n) x ≡ false
 unfolding marked
 nothing-marked n x = ap (λ (w : ℕ). bit w (x % 16)) (getD-zeros n (x / 16)) ∙ none (x % 16)
   where
@@ -153,10 +125,6 @@ indexed-none numbers n size apart room =
 pub indexed-state : (s numbers : List ℕ) → Numbered s numbers → Indexed numbers (zeros 6168) [] []
 indexed-state s numbers n = indexed-none numbers 6168 (n .size) (n .apart) (λ u. record { inside = omega (arith, n .most u, length-zeros 6168); most = omega (arith, n .most u) })
 
--- one user has a number, and two blocks
-pub indexed-user : (v : ℕ) (numbers : List ℕ) → Alone v numbers → Indexed numbers (zeros 48) [] []
-indexed-user v numbers n = indexed-none numbers 48 (n .size) (n .apart) (λ u. record { inside = omega (arith, n .most u, length-zeros 48); most = omega (arith, n .most u) })
-
 pub says : (numbers words : List ℕ) (rows : List Row) (certificates : List Certificate) → Indexed numbers words rows certificates → (u : ℕ) → 0 < getD numbers u 0 → Says (block words (baseOf numbers u)) rows certificates u
 says numbers words rows certificates x u h = record { roles-said = λ q l. x .roles-marked u q h l; kinds-said = λ k l. x .kinds-marked u k h l; beyond = x .beyond u }
 
@@ -168,11 +136,22 @@ module _ (numbers words : List ℕ) (rows : List Row) (w : World) (x : Indexed n
   pub supported-there : (r : Row) → r .user ≡ u → supportedBy (block words base) w r ≡ supported w rows r
   supported-there r q = ap (λ (b : ℕ). supportedBy (block words b) w r) e ∙ supported-said (block words (baseOf numbers u)) rows w u (says numbers words rows (w .certificates) x u known) r q
 
-  pub satisfied-there : (q : ℕ) (r : Rule) → satisfiedBy (block words base) w q r ≡ satisfied w rows u q r
-  satisfied-there q r = ap (λ (b : ℕ). satisfiedBy (block words b) w q r) e ∙ satisfied-said (block words (baseOf numbers u)) rows w u (says numbers words rows (w .certificates) x u known) q r
-
-same-room : (words words′ : List ℕ) (base : ℕ) → length words′ ≡ length words → Room words base → Room words′ base
+pub same-room : (words words′ : List ℕ) (base : ℕ) → length words′ ≡ length words → Room words base → Room words′ base
 same-room words words′ base e r = record { inside = omega (arith, e, r .inside); most = r .most }
+
+pub or-last : (a b : Bool) → (b || a) ≡ (a || (b || false))
+or-last true true = refl
+or-last true false = refl
+or-last false true = refl
+or-last false false = refl
+
+-- a kind's mark is its own
+pub same-kind : (a b : ℕ) → eqb (256 + a) (256 + b) ≡ eqb a b
+same-kind a b = go (eq-or-ne a b)
+  where
+    go : (a ≡ b) ⊎ (a ≢ b) → eqb (256 + a) (256 + b) ≡ eqb a b
+    go (inl e) = eq-eqb (256 + a) (256 + b) (ap (λ (n : ℕ). 256 + n) e) ∙ sym (eq-eqb a b e)
+    go (inr e) = ne-eqb (256 + a) (256 + b) (λ q. e (omega (arith, q))) ∙ sym (ne-eqb a b e)
 
 module _ (numbers words : List ℕ) (rows : List Row) (certificates : List Certificate) (x : Indexed numbers words rows certificates) where
   -- two places of two blocks are the same only for the same user
@@ -190,12 +169,6 @@ module _ (numbers words : List ℕ) (rows : List Row) (certificates : List Certi
           differ (inl a) (inl b) = absurd (e (sym (λ i. baseOf numbers (a i) + b i)))
           differ (inl a) (inr b) = (λ i. eq-eqb v u a i && ne-eqb p q b i)
           differ (inr a) d = ap (λ (y : Bool). y && eqb p q) (ne-eqb v u a)
-
-  or-last : (a b : Bool) → (b || a) ≡ (a || (b || false))
-  or-last true true = refl
-  or-last true false = refl
-  or-last false true = refl
-  or-last false false = refl
 
   -- one row more is entered
   pub row-entered : (words′ : List ℕ) (r : Row) → r .role < 256 → Marked words words′ (baseOf numbers (r .user) + r .role) → Indexed numbers words′ (rows ++ (r ∷ [])) certificates
@@ -239,13 +212,6 @@ module _ (numbers words : List ℕ) (rows : List Row) (certificates : List Certi
             ∙ sym (any-append (λ (d : Certificate). eqb (d .appointee) u && eqb (d .kind) k) certificates (c ∷ []));
         beyond = x .beyond;
       }
-    where
-      same-kind : (a b : ℕ) → eqb (256 + a) (256 + b) ≡ eqb a b
-      same-kind a b = go (eq-or-ne a b)
-        where
-          go : (a ≡ b) ⊎ (a ≢ b) → eqb (256 + a) (256 + b) ≡ eqb a b
-          go (inl e) = eq-eqb (256 + a) (256 + b) (ap (λ (n : ℕ). 256 + n) e) ∙ sym (eq-eqb a b e)
-          go (inr e) = ne-eqb (256 + a) (256 + b) (λ q. e (omega (arith, q))) ∙ sym (ne-eqb a b e)
 
 -- ── the loops over a state's tables ──
 

@@ -11,7 +11,7 @@ use Rattle.model.specs.declared.Row.{Row}
 use Rattle.model.specs.declared.Certificate.{Certificate}
 use Rattle.table.specs.Entries.{rowAt, Sized}
 use Rattle.marks.specs.Marks.{marked}
-use Rattle.index.specs.Marked.{Room}
+use Rattle.index.specs.Marked.{Room, block}
 
 -- the ranges that a sound state keeps
 pub record InRange (s : List ℕ) : Type 0 where
@@ -34,13 +34,6 @@ pub record Numbered (s numbers : List ℕ) : Type 0 where
   pub most : (u : ℕ) → getD numbers u 0 ≤ mostRows
   pub known : (i : ℕ) → i < rowCount s → 0 < getD numbers (rowAt s i .user) 0
 
--- this user has number 1, and nobody else has one
-pub record Alone (u : ℕ) (numbers : List ℕ) : Type 0 where
-  pub size : length numbers ≡ users
-  pub apart : Apart numbers
-  pub most : (v : ℕ) → getD numbers v 0 ≤ 1
-  pub own : getD numbers u 0 ≡ 1
-
 -- the blocks of all that have a number say what these rows and certificates say
 pub record Indexed (numbers words : List ℕ) (rows : List Row) (certificates : List Certificate) : Type 0 where
   pub size : length numbers ≡ users
@@ -49,3 +42,10 @@ pub record Indexed (numbers words : List ℕ) (rows : List Row) (certificates : 
   pub roles-marked : (u q : ℕ) → 0 < getD numbers u 0 → q < roles → marked words (baseOf numbers u + q) ≡ active rows u q
   pub kinds-marked : (u k : ℕ) → 0 < getD numbers u 0 → k < mostKinds → marked words (baseOf numbers u + (256 + k)) ≡ someStands certificates u k
   pub beyond : (u q : ℕ) → roles ≤ q → active rows u q ≡ false
+
+-- one block alone, at the beginning: it says what these rows and certificates say of this user
+pub record Own (u : ℕ) (words : List ℕ) (rows : List Row) (certificates : List Certificate) : Type 0 where
+  pub room : Room words 0
+  pub roles-marked : (q : ℕ) → q < roles → block words 0 q ≡ active rows u q
+  pub kinds-marked : (k : ℕ) → k < mostKinds → block words 0 (256 + k) ≡ someStands certificates u k
+  pub beyond : (q : ℕ) → roles ≤ q → active rows u q ≡ false

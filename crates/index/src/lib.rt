@@ -3,20 +3,21 @@
 ghost use mathlib.Core.Path.{_≡_};
 ghost use mathlib.Core.Bool.{_&&_};
 ghost use mathlib.Core.List.{[]};
-ghost use Prim.Native.Nat.{_+_, _*_, _/_, _<_, _≤_};
+ghost use Prim.Native.Nat.{_+_, _<_, _≤_};
 ghost use lib.Dec.{eqb};
 ghost use lib.ListN.{length, getD, take, replicate};
 ghost use Rattle.model.specs.Lists.{all};
 ghost use Rattle.model.specs.Limits.{users, mostKinds};
 ghost use Rattle.model.specs.Layout.{decode, policyOf, factNumbers};
-ghost use Rattle.model.specs.Conditions.{meant, prerequisiteRoles, kindNumbered};
-ghost use Rattle.table.specs.Entries.{ruleAt, worldAt, without-rights, Sized};
-ghost use Rattle.index.specs.Marked.{Room, block, roleMarked, holdsBy, allHoldBy, supportedBy, satisfiedBy};
-ghost use Rattle.index.specs.Indexed.{InRange, baseOf, Numbered, Alone, Indexed};
+ghost use Rattle.model.specs.Conditions.{meant, activating, prerequisiteRoles, kindNumbered};
+ghost use Rattle.table.specs.Entries.{worldAt, without-rights, Sized};
+ghost use Rattle.index.specs.Marked.{Room, block, roleMarked, holdsBy, allHoldBy, supportedBy};
+ghost use Rattle.index.specs.Indexed.{InRange, baseOf, Numbered, Indexed, Own};
 use model::CERTIFICATE_COUNT;
 use model::ROLES;
 use model::ROW_COUNT;
 use model::Row;
+use model::Rule;
 
 // How many marks a block has, and from which on they are kinds.
 const BLOCK: usize = 384;
@@ -26,7 +27,7 @@ const KINDS: usize = 256;
 const FACTS: usize = 64;
 
 // The role is marked in the block. A role out of range never is.
-fn role_marked(words: &[u16], base: usize, role: u16) -> bool
+pub fn role_marked(words: &[u16], base: usize, role: u16) -> bool
     requires { ⌜ Room (now words) base ⌝ }
     ensures { λ r. ⌜ r ≡ roleMarked (block (now (words .entry)) base) role ⌝ }
 {
@@ -134,23 +135,11 @@ pub fn row_supported(
     all_conditions_hold(kinds, state, words, base, conditions, n)
 }
 
-// Rule i is one for the role, and its conditions all hold by the marks of the block.
-pub fn rule_satisfied(
-    rules: &[u16],
-    kinds: &[u16],
-    state: &[u16],
-    words: &[u16],
-    base: usize,
-    role: u16,
-    i: usize,
-) -> bool
-    requires { ⌜ Sized (now state) × Room (now words) base × (i < length (now rules) / 11) ⌝ }
-    ensures { λ r. ⌜ r ≡ satisfiedBy (block (now (words .entry)) base) (worldAt (now (rules .entry)) (now (kinds .entry)) (now (state .entry))) role (ruleAt (now (rules .entry)) i) ⌝ }
+// The rule's conditions all hold by the marks of the block.
+pub fn rule_holds(kinds: &[u16], state: &[u16], words: &[u16], base: usize, rule: Rule) -> bool
+    requires { ⌜ Sized (now state) × Room (now words) base ⌝ }
+    ensures { λ r. ⌜ r ≡ allHoldBy (block (now (words .entry)) base) (worldAt [] (now (kinds .entry)) (now (state .entry))) (activating rule) ⌝ }
 {
-    let rule = table::rule_at(rules, i);
-    if rule.target != role {
-        return false;
-    }
     let conditions = rule.conditions;
     let n = table::least(table::wide(rule.n), 8);
     all_conditions_hold(kinds, state, words, base, conditions, n)
@@ -179,14 +168,6 @@ pub fn number_users(state: &[u16], numbers: &mut [u16])
     }
 }
 
-// The user alone gets a number.
-pub fn number_user(user: u16, numbers: &mut [u16])
-    requires { ⌜ (user < users) × (now numbers ≡ replicate users 0) ⌝ }
-    ensures { λ r. ⌜ Alone user (now (numbers .exit)) ⌝ }
-{
-    numbers[table::wide(user)] = 1;
-}
-
 // Each certificate is marked in the block of its appointee.
 pub fn enter_certificates(state: &[u16], numbers: &[u16], words: &mut [u16])
     requires { ⌜ InRange (now state) × Indexed (now numbers) (now words) [] [] ⌝ }
@@ -202,17 +183,34 @@ pub fn enter_certificates(state: &[u16], numbers: &[u16], words: &mut [u16])
     }
 }
 
-// Each row is marked in the block of its user.
-pub fn enter_rows(state: &[u16], numbers: &[u16], words: &mut [u16])
-    requires { ⌜ InRange (now state) × Indexed (now numbers) (now words) [] (decode (now state) .certificates) ⌝ }
-    ensures { λ r. ⌜ Indexed (now (numbers .entry)) (now (words .exit)) (decode (now (state .entry)) .rows) (decode (now (state .entry)) .certificates) ⌝ }
+// The user's own block, at the beginning: the roles that he is active in are marked.
+pub fn mark_roles(state: &[u16], user: u16, words: &mut [u16])
+    requires { ⌜ InRange (now state) × (now words ≡ replicate 24 0) ⌝ }
+    ensures { λ r. ⌜ Own user (now (words .exit)) (decode (now (state .entry)) .rows) [] ⌝ }
 {
     let n = table::wide(state[ROW_COUNT]);
     let mut i: usize = 0;
     while i < n {
         let row = table::row_at(state, i);
         i += 1;
-        let base = base_of(numbers, row.user);
-        marks::mark(words, base + table::wide(row.role));
+        if row.user == user {
+            marks::mark(words, table::wide(row.role));
+        }
+    }
+}
+
+// The user's own block, at the beginning: the kinds that stand for him are marked.
+pub fn mark_kinds(state: &[u16], user: u16, words: &mut [u16])
+    requires { ⌜ InRange (now state) × Own user (now words) (decode (now state) .rows) [] ⌝ }
+    ensures { λ r. ⌜ Own user (now (words .exit)) (decode (now (state .entry)) .rows) (decode (now (state .entry)) .certificates) ⌝ }
+{
+    let n = table::wide(state[CERTIFICATE_COUNT]);
+    let mut j: usize = 0;
+    while j < n {
+        let certificate = table::certificate_at(state, j);
+        j += 1;
+        if certificate.appointee == user {
+            marks::mark(words, KINDS + table::wide(certificate.kind));
+        }
     }
 }

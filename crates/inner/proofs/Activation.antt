@@ -15,13 +15,25 @@ use Rattle.model.specs.Outcome.{given}
 use Rattle.model.specs.Calls.{activate, isUser, isRole, someRuleSatisfied, lowestRule, activateOn, courseOf}
 use Rattle.model.specs.Words.{Sound, FirstApplies, none, here, later}
 use Rattle.model.specs.declared.Answer.{Answer}
+use Rattle.model.specs.declared.Rule.{Rule}
 use Rattle.model.proofs.Tests.{of-true, of-false}
 use Rattle.table.specs.Entries.{worldAt, without-rights}
 use Rattle.table.proofs.Entries.{length-entries}
 use Rattle.table.proofs.Worlds.{satisfied-same}
+use Rattle.index.specs.Marked.{block, satisfiedBy}
+use Rattle.index.specs.Indexed.{Own}
+use Rattle.index.proofs.Owning.{satisfied-own}
 use Rattle.inner.specs.Lent.{lent, Answers}
 use Rattle.inner.proofs.First.{found-any, not-found}
 use Rattle.inner.proofs.Codes.{own-refuses, own-accepts, out-of-range, in-range, found, row-length}
+
+-- the lowest rule by the user's own marks is the lowest that is satisfied
+pub lowest-own : (rules kinds s : List ℕ) (u q i : ℕ) (words : List ℕ) → Own u words (decode s .rows) (decode s .certificates)
+    → i ≡ firstPlace (satisfiedBy (block words 0) (worldAt rules kinds s) q) (policyOf (without-rights rules kinds) .rules)
+    → i ≡ firstPlace (satisfied (worldAt rules kinds s) (decode s .rows) u q) (policyOf (without-rights rules kinds) .rules)
+lowest-own rules kinds s u q i words x h =
+    h
+    ∙ (λ j. firstPlace (λ (r : Rule). satisfied-own u words (decode s .rows) (worldAt rules kinds s) x q r j) (policyOf (without-rights rules kinds) .rules))
 
 module _ (rules kinds rights s : List ℕ) (h : Sound (lent rules kinds rights) s) (u q : ℕ) where
   refused : (r : Answer) (code : ℕ) → 0 < code → (r .code ≡ code) × (r .second ≡ 0) → FirstApplies (activateOn (given (lent rules kinds rights) s []) u q .refusals) code → Answers (lent rules kinds rights) s (activate u q) r s

@@ -2,18 +2,15 @@
 // call.
 ghost use mathlib.Core.Path.{_≡_};
 ghost use mathlib.Core.List.{[]};
-ghost use Prim.Native.Nat.{_<_};
 ghost use lib.ListN.{length};
 ghost use Rattle.model.specs.Lists.{firstPlace};
-ghost use Rattle.model.specs.Limits.{users, stateSize};
+ghost use Rattle.model.specs.Limits.{stateSize};
 ghost use Rattle.model.specs.Layout.{decode, policyOf};
-ghost use Rattle.model.specs.Conditions.{satisfied};
 ghost use Rattle.model.specs.Sound.{sameCertificate};
 ghost use Rattle.model.specs.Calls.{fresh as freshCall, activate as activateCall, appoint as appointCall};
 ghost use Rattle.model.specs.Words.{Sound};
 ghost use Rattle.table.specs.Entries.{worldAt, without-rights, Sized};
 ghost use Rattle.index.specs.Marked.{Room, block, satisfiedBy};
-ghost use Rattle.index.specs.Indexed.{InRange};
 ghost use Rattle.inner.specs.Lent.{lent, Answers};
 use model::Answer;
 use model::CERTIFICATE_COUNT;
@@ -26,42 +23,30 @@ use model::Row;
 use model::STATE_SIZE;
 use model::USERS;
 
-const BLOCK: usize = 384;
-
 pub fn refused(code: u16) -> Answer
     ensures { λ r. ⌜ (r .code ≡ code) × (r .second ≡ 0) ⌝ }
 {
     Answer { code, second: 0 }
 }
 
-// The lowest rule for the role whose conditions all hold by the marks of block 1, or the number of rules if there is none.
+// The lowest rule for the role whose conditions all hold by the marks, or the number of rules if there is none. Most rules are for
+// other roles, so a rule's target is asked before anything else is made ready.
 fn lowest_marked(rules: &[u16], kinds: &[u16], state: &[u16], words: &[u16], role: u16) -> usize
-    requires { ⌜ Sized (now state) × Room (now words) 384 ⌝ }
-    ensures { λ r. ⌜ r ≡ firstPlace (satisfiedBy (block (now (words .entry)) 384) (worldAt (now (rules .entry)) (now (kinds .entry)) (now (state .entry))) role) (policyOf (without-rights (now (rules .entry)) (now (kinds .entry))) .rules) ⌝ }
+    requires { ⌜ Sized (now state) × Room (now words) 0 ⌝ }
+    ensures { λ r. ⌜ r ≡ firstPlace (satisfiedBy (block (now (words .entry)) 0) (worldAt (now (rules .entry)) (now (kinds .entry)) (now (state .entry))) role) (policyOf (without-rights (now (rules .entry)) (now (kinds .entry))) .rules) ⌝ }
 {
     let n = rules.len() / RULE_WIDTH;
     let mut i: usize = 0;
     while i < n {
-        if index::rule_satisfied(rules, kinds, state, words, BLOCK, role, i) {
-            return i;
+        let rule = table::rule_at(rules, i);
+        if rule.target == role {
+            if index::rule_holds(kinds, state, words, 0, rule) {
+                return i;
+            }
         }
         i += 1;
     }
     i
-}
-
-// The lowest rule for the role whose conditions all hold for the user, or the number of rules if there is none. Only the user's own
-// block is asked, so all others share block 0.
-fn lowest_rule(rules: &[u16], kinds: &[u16], state: &[u16], user: u16, role: u16) -> usize
-    requires { ⌜ InRange (now state) × (user < users) ⌝ }
-    ensures { λ r. ⌜ r ≡ firstPlace (satisfied (worldAt (now (rules .entry)) (now (kinds .entry)) (now (state .entry))) (decode (now (state .entry)) .rows) user role) (policyOf (without-rights (now (rules .entry)) (now (kinds .entry))) .rules) ⌝ }
-{
-    let mut numbers = [0u16; 4096];
-    index::number_user(user, &mut numbers);
-    let mut words = [0u16; 48];
-    index::enter_certificates(state, &numbers, &mut words);
-    index::enter_rows(state, &numbers, &mut words);
-    lowest_marked(rules, kinds, state, &words, role)
 }
 
 // Where the certificate stands, or the number of certificates if it does not.
@@ -89,6 +74,7 @@ pub fn fresh(state: &mut [u16]) -> Answer
     refused(0)
 }
 
+// The marks of the user alone are made, once: they say whether he is active in the role, and which conditions hold for him.
 pub fn activate(
     rules: &[u16],
     kinds: &[u16],
@@ -106,14 +92,17 @@ pub fn activate(
     if ROLES <= role {
         return refused(3);
     }
-    let k = table::wide(state[ROW_COUNT]);
-    if table::is_active(state, k, user, role) {
+    let mut words = [0u16; 24];
+    index::mark_roles(state, user, &mut words);
+    if index::role_marked(&words, 0, role) {
         return refused(4);
     }
-    let i = lowest_rule(rules, kinds, state, user, role);
+    index::mark_kinds(state, user, &mut words);
+    let i = lowest_marked(rules, kinds, state, &words, role);
     if rules.len() / RULE_WIDTH <= i {
         return refused(5);
     }
+    let k = table::wide(state[ROW_COUNT]);
     if 256 <= k {
         return refused(6);
     }

@@ -1,0 +1,93 @@
+-- The invariant: the user's roles in the rows passed are marked.
+use Prim.Native.Nat.{ℕ, _≤_, _-_}
+use mathlib.Core.Path.{_≡_, refl, ap, _∙_, subst, subst⁻¹}
+use mathlib.Core.List.{List, []}
+use native.Mathlib.Omega.{arith}
+use lib.ListN.{length}
+use Rattle.model.specs.Layout.{decode, rowCount}
+use Rattle.model.specs.declared.Row.{Row}
+use Rattle.table.specs.Entries.{firstRows}
+use Rattle.index.specs.Indexed.{Own}
+use Rattle.index.proofs.Indexing.{row-in-range}
+use Rattle.index.proofs.Owning.{own-none, roles-on, roles-past}
+use borrow.Author.Needs.{needs}
+use Rattle.index.proofs.mark_roles.Statement.{statement}
+use Rattle.index.proofs.mark_roles.Tie as tie
+
+abbrev Inv-loop : tie.InvT-loop
+Inv-loop state user words₀ n i₀ words i = (i ≤ rowCount state) × (length words ≡ length words₀) × Own user words (firstRows state i) []
+
+abbrev μ-loop : tie.MeasureT-loop
+μ-loop state user words₀ n i₀ words i = rowCount state - i
+
+shared-slice-read-wide : tie.Need-shared-slice-read-wide Inv-loop μ-loop
+shared-slice-read-wide c = omega (arith, c .before .before .before .pre .0 .sized .size)
+
+-- src/lib.rt:202:9
+wide-requires : tie.Need-wide-requires Inv-loop μ-loop
+wide-requires c κs = search needs
+
+loop-holds : tie.Need-loop-holds Inv-loop μ-loop
+unfolding firstRows
+loop-holds c = (search needs, refl, subst⁻¹ (λ (l : List ℕ). Own (c .before .before .before .before .args .user) l [] []) (c .before .before .before .before .pre .1) (own-none (c .before .before .before .before .args .user)))
+
+row-at-requires : tie.Need-row-at-requires Inv-loop μ-loop
+row-at-requires c κs = (c .before .before .before .before .before .before .pre .0 .sized .size, omega (arith, c .before .before .wide .ensures, c .before .before .before .before .before .before .pre .0 .sized .rows))
+
+-- src/lib.rt:206:9
+add-i : tie.Need-add-i Inv-loop μ-loop
+add-i c = search needs
+
+-- src/lib.rt:208:32
+wide-requires-2 : tie.Need-wide-requires-2 Inv-loop μ-loop
+wide-requires-2 c κs = search needs
+
+mark-requires : tie.Need-mark-requires Inv-loop μ-loop
+mark-requires c κs = omega (arith, c .before .before .before .before .before .before .loop .inv .2 .room .inside, c .wide2 .ensures, ap (λ (x : Row). x .role) (c .before .before .before .before .row-at .ensures), row-in-range (c .before .before .before .before .before .before .before .before .before .before .before .args .state .now) (c .before .before .before .before .before .before .before .before .before .before .before .pre .0) (c .before .before .before .before .before .before .loop .i) (omega (arith, c .before .before .before .before .before .before .before .wide .ensures)) .1)
+
+loop-less : tie.Need-loop-less Inv-loop μ-loop
+loop-less c = omega (arith, c .before .before .before .before .before .before .before .before .before .before .wide .ensures)
+
+loop-again : tie.Need-loop-again Inv-loop μ-loop
+loop-again c = (
+  omega (arith, c .before .before .before .before .before .before .before .before .before .before .wide .ensures),
+  c .before .before .mark .ensures .size ∙ c .before .before .before .before .before .before .before .before .before .loop .inv .1,
+  roles-on (c .before .before .before .before .before .before .before .before .before .before .before .before .before .before .args .state .now) (c .before .before .before .before .before .before .before .before .before .loop .words) (c .before .before .before .before .before .before .before .before .before .before .before .before .before .before .args .user) (c .before .before .before .before .before .before .before .before .before .loop .i) [] (c .before .before .before .before .before .before .before .row-at .result) (c .before .before .before .before .before .before .before .row-at .ensures) (c .before .before .before .before .before .before .before .before .before .loop .inv .2) _ (c .before .before .before .wide2 .result) (c .before .before .before .before .before .before .before .before .before .before .before .before .before .before .pre .0) (omega (arith, c .before .before .before .before .before .before .before .before .before .before .wide .ensures)) (c .before .before .before .before .before .if1 .taken) (c .before .before .before .wide2 .ensures) (c .before .before .mark .ensures),
+)
+
+loop-less-2 : tie.Need-loop-less-2 Inv-loop μ-loop
+loop-less-2 c = omega (arith, c .before .before .before .before .before .wide .ensures)
+
+loop-again-2 : tie.Need-loop-again-2 Inv-loop μ-loop
+loop-again-2 c = (
+  omega (arith, c .before .before .before .before .before .wide .ensures),
+  c .before .before .before .before .loop .inv .1,
+  roles-past (c .before .before .before .before .before .before .before .before .before .args .state .now) (c .before .before .before .before .loop .words) (c .before .before .before .before .before .before .before .before .before .args .user) (c .before .before .before .before .loop .i) [] (c .before .before .row-at .result) (c .before .before .row-at .ensures) (c .before .before .before .before .loop .inv .2) (c .if1 .left),
+)
+
+same-length : tie.Need-same-length Inv-loop μ-loop
+same-length c = c .before .loop .inv .1
+
+returns : tie.Need-returns Inv-loop μ-loop
+unfolding decode firstRows
+returns c = let e : c .before .loop .i ≡ rowCount (c .before .before .before .before .before .before .args .state .now) = omega (arith, c .before .before .wide .ensures) in subst (λ (n : ℕ). Own (c .before .before .before .before .before .before .args .user) (c .before .loop .words) (firstRows (c .before .before .before .before .before .before .args .state .now) n) []) e (c .before .loop .inv .2)
+
+pub mark-roles-spec : {M : Type 1} → statement M
+mark-roles-spec =
+    tie.close
+    (tie.spec
+    Inv-loop
+    μ-loop
+    shared-slice-read-wide
+    wide-requires
+    loop-holds
+    row-at-requires
+    add-i
+    wide-requires-2
+    mark-requires
+    loop-less
+    loop-again
+    loop-less-2
+    loop-again-2
+    same-length
+    returns)

@@ -1,0 +1,30 @@
+use mathlib.Core.Path.{ap, _∙_}
+use Prim.Native.Nat.{ℕ, min}
+use Rattle.index.specs.Marked.{block}
+use Rattle.index.proofs.Holding.{first-by}
+use borrow.Author.Needs.{needs}
+use Rattle.index.proofs.rule_holds.Statement.{statement}
+use Rattle.index.proofs.rule_holds.Tie as tie
+
+-- src/lib.rt:144:26
+wide-requires : tie.Need-wide-requires
+wide-requires c κs = search needs
+
+-- src/lib.rt:144:9
+least-requires : tie.Need-least-requires
+least-requires c κs = search needs
+
+-- src/lib.rt:145:5
+all-conditions-hold-requires : tie.Need-all-conditions-hold-requires
+all-conditions-hold-requires c κs = search needs
+
+returns : tie.Need-returns
+returns c =
+    first-by (block (c .before .before .before .before .before .before .before .args .words .now) (c .before .before .before .before .before .before .before .args .base)) (c .before .before .before .before .before .before .before .args .kinds .now) (c .before .before .before .before .before .before .before .args .state .now) (c .before .least .result) (c .before .before .before .before .before .before .before .args .rule .n) (c .before .before .before .before .before .before .before .args .rule .conditions) (c .all-conditions-hold .result)
+    (search needs)
+    (c .before .least .ensures ∙ ap (λ (n : ℕ). min n 8) (c .before .before .wide .ensures))
+    (c .all-conditions-hold .ensures)
+
+pub rule-holds-spec : {M : Type 1} → statement M
+rule-holds-spec =
+    tie.close (tie.spec wide-requires least-requires all-conditions-hold-requires returns)
