@@ -139,14 +139,14 @@ pub fn effective(
     if PRIVILEGES <= privilege {
         return inner::refused(3);
     }
-    let k = table::wide(state[ROW_COUNT]);
-    if !table::is_active(state, k, user, role) {
+    let n = table::wide(state[ROW_COUNT]);
+    if !table::is_active(state, n, user, role) {
         return inner::refused(12);
     }
     let having = direct::roles_having(rights, privilege);
     let mut asked = [false; 384];
     asked[table::wide(role)] = true;
-    told(roles_reach(rules, kinds, &having, state, &mut asked, k, user))
+    told(roles_reach(rules, kinds, &having, state, &mut asked, n, user))
 }
 
 // A row rests on earlier rows, so no role is written twice and the list has room for all.
