@@ -5,10 +5,10 @@ use mathlib.Core.Bool.{Bool, true, false, not, _||_, cond, true≢false}
 use mathlib.Core.Logic.{_⊎_, inl, inr}
 use mathlib.Core.List.{List, [], _∷_}
 use native.Mathlib.Omega.{arith}
-use lib.Dec.{T}
+use lib.Dec.{T, T-not}
 use lib.ListN.{length, getD}
 use Rattle.model.specs.Lists.{any, firstPlace}
-use Rattle.model.proofs.Tests.{lt-or-ge, of-true, is-true, refute, of-any, first-place}
+use Rattle.model.proofs.Tests.{lt-or-ge, of-true, is-true, of-any, first-place}
 use Rattle.table.specs.Entries.{entry, entries}
 use Rattle.table.proofs.Entries.{any-hit, entry-in, entry-member, length-entries}
 
@@ -55,7 +55,7 @@ module _ {A : Type 0} (from : List ℕ → A) (width : ℕ) (test : A → Bool) 
       go : (p < j) ⊎ (j ≤ p) → (j < p) ⊎ (p ≤ j) → p ≡ j
       go (inl a) b =
           absurd (true≢false (sym (is-true (any test (entries from width table j)) (of-any test (entry from width table p) (entries from width table j) (entry-member from width table j p a) (subst (λ (x : A). T (test x)) (entry-in from width table n p d (omega arith)) (least .1)))) ∙ e))
-      go (inr a) (inl b) = absurd (refute (test (entry from width table j)) (subst (λ (x : A). T (not (test x))) (entry-in from width table n j d h) (least .2 j b)) (of-true (test (entry from width table j)) t))
+      go (inr a) (inl b) = absurd (T-not (test (entry from width table j)) (subst (λ (x : A). T (not (test x))) (entry-in from width table n j d h) (least .2 j b)) (of-true (test (entry from width table j)) t))
       go (inr a) (inr b) = omega arith
 
   pub first-missing : (n : ℕ) → any test (entries from width table n) ≡ false → firstPlace test (entries from width table n) ≡ n

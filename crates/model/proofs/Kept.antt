@@ -5,7 +5,7 @@ use mathlib.Core.Bool.{Bool, not}
 use mathlib.Core.Logic.{_⊎_, inl, inr}
 use mathlib.Core.List.{List, [], _∷_, _++_, List·Memᴰ, List·Memᴰ·head, List·Memᴰ·tail, List·Memᴰ·cases-cons, List·Memᴰ·not-nil, Memᴰ·append-left, Sublistᴰ, Sublistᴰ·slnil}
 use native.Mathlib.Omega.{arith}
-use lib.Dec.{T, eqb, ltb, lt→ltb, leb→le}
+use lib.Dec.{T, eqb, ltb, lt→ltb, leb→le, T-not, not-T}
 use lib.ListN.{length, take, set, length-append, length-set}
 use Rattle.model.specs.Lists.{any, all, allOverEarlier, without, isBit}
 use Rattle.model.specs.Limits.{users, roles, facts, mostRows, mostCertificates}
@@ -18,7 +18,7 @@ use Rattle.model.specs.declared.Rule.{Rule}
 use Rattle.model.specs.declared.Row.{Row}
 use Rattle.model.specs.declared.Certificate.{Certificate}
 use Rattle.model.specs.Words.{Fits, SoundState}
-use Rattle.model.proofs.Tests.{and-left, and-right, and-both, refute, not-of, any-map, all-of, of-all, each, of-each, at-place, earlier-last, earlier-map}
+use Rattle.model.proofs.Tests.{and-left, and-right, and-both, any-map, all-of, of-all, each, of-each, at-place, earlier-last, earlier-map}
 use Rattle.model.proofs.Parts.{part-member, part-length, without-part, without-keeps, earlier-part, earlier-without}
 use Rattle.model.proofs.Sweep.{left-part, left-earlier}
 use Rattle.model.proofs.Support.{active-of, of-active, active-grows, isRow-user, supported-grows, row-user, row-role, row-new, row-rule, row-target, row-supported, row-sound, Less, less-supports}
@@ -121,7 +121,7 @@ unfolding certificateClauses
 certificate-fewer p few many c d t =
     let e = each (certificateClauses p many c) t in
     of-each (certificateClauses p few c)
-    (e .0, (e .1 .0, (e .1 .1 .0, (not-of (any (sameCertificate c) few) (λ h. refute (any (sameCertificate c) many) (e .1 .1 .1 .0) (any-map (sameCertificate c) (sameCertificate c) few many (λ x m v. (part-member x few many d m, v)) h)), tt))))
+    (e .0, (e .1 .0, (e .1 .1 .0, (not-T (any (sameCertificate c) few) (λ h. T-not (any (sameCertificate c) many) (e .1 .1 .1 .0) (any-map (sameCertificate c) (sameCertificate c) few many (λ x m v. (part-member x few many d m, v)) h)), tt))))
 
 pub certificates-fewer : (p : Policy) (few many : List Certificate) → Sublistᴰ few many → T (allOverEarlier (certificateSound p) [] many) → T (allOverEarlier (certificateSound p) [] few)
 certificates-fewer p few many d t = earlier-part (certificateSound p) (certificate-fewer p) [] [] few many Sublistᴰ·slnil d t
@@ -149,7 +149,7 @@ fallen-sound p before after h f d rows =
     renews : (kept earlier : List Row) (r : Row) → Sublistᴰ kept earlier → T (rowSound w earlier r) → T (supported (worldOf p after) kept r) → T (rowSound (worldOf p after) kept r)
     renews kept earlier r k t s =
         row-sound (worldOf p after) kept r (row-user w earlier r t) (row-role w earlier r t)
-        (not-of (active kept (r .user) (r .role)) (λ a. refute (active earlier (r .user) (r .role)) (row-new w earlier r t) (active-grows kept earlier (r .user) (r .role) (λ x m. part-member x kept earlier k m) a)))
+        (not-T (active kept (r .user) (r .role)) (λ a. T-not (active earlier (r .user) (r .role)) (row-new w earlier r t) (active-grows kept earlier (r .user) (r .role) (λ x m. part-member x kept earlier k m) a)))
         (row-rule w earlier r t) (row-target w earlier r t) s
 
 -- ── rows of some users go ──
@@ -168,12 +168,12 @@ rows-without-user p t gone by h = earlier-without (rowSound w) gone stays [] (t 
     still earlier r n q a =
         let s : (s : Row) × List·Memᴰ s earlier × T (isRow (r .user) q s) = active-of earlier (r .user) q a in
         of-active (without gone earlier) (r .user) q (s .0)
-        (without-keeps gone earlier (s .0) (s .1) (not-of (gone (s .0)) (λ g. refute (gone r) n (by .alike (s .0) r (isRow-user (r .user) q (s .0) (s .2)) g)))) (s .2)
+        (without-keeps gone earlier (s .0) (s .1) (not-T (gone (s .0)) (λ g. T-not (gone r) n (by .alike (s .0) r (isRow-user (r .user) q (s .0) (s .2)) g)))) (s .2)
 
     stays : (earlier : List Row) (r : Row) → T (not (gone r)) → T (rowSound w earlier r) → T (rowSound w (without gone earlier) r)
     stays earlier r n t =
         row-sound w (without gone earlier) r (row-user w earlier r t) (row-role w earlier r t)
-        (not-of (active (without gone earlier) (r .user) (r .role)) (λ a. refute (active earlier (r .user) (r .role)) (row-new w earlier r t) (active-grows (without gone earlier) earlier (r .user) (r .role) (λ x m. part-member x _ _ (without-part gone earlier) m) a)))
+        (not-T (active (without gone earlier) (r .user) (r .role)) (λ a. T-not (active earlier (r .user) (r .role)) (row-new w earlier r t) (active-grows (without gone earlier) earlier (r .user) (r .role) (λ x m. part-member x _ _ (without-part gone earlier) m) a)))
         (row-rule w earlier r t) (row-target w earlier r t)
         (supported-grows w earlier (without gone earlier) r (λ q m a. still earlier r n q a) (row-supported w earlier r t))
 

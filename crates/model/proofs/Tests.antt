@@ -30,14 +30,6 @@ pub decide : (b : Bool) → T b ⊎ T (not b)
 decide true = inl tt
 decide false = inr tt
 
-pub refute : (b : Bool) → T (not b) → T b → ⊥
-refute true n t = n
-refute false n t = t
-
-pub not-of : (b : Bool) → (T b → ⊥) → T (not b)
-not-of true f = f tt
-not-of false f = tt
-
 pub not-not : (b : Bool) → T (not (not b)) → T b
 not-not true t = tt
 not-not false t = t

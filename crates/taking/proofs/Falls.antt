@@ -5,7 +5,7 @@ use mathlib.Core.Bool.{Bool, true, false, not, _&&_, _||_, cond}
 use mathlib.Core.Logic.{_⊎_, inl, inr}
 use mathlib.Core.List.{List, [], _∷_, _++_, List·Memᴰ, Memᴰ·append-right, List·Memᴰ·head, List·Memᴰ·tail, List·Memᴰ·cases-cons}
 use native.Mathlib.Omega.{arith}
-use lib.Dec.{T, eqb, ltb, eqb→eq, lt→ltb, le→leb}
+use lib.Dec.{T, eqb, ltb, eqb→eq, lt→ltb, le→leb, T-not, not-T}
 use lib.ListN.{length, getD, take, drop, length-take, length-drop, length-append}
 use borrow.Author.Tests.{lt-ltb, le-ltb}
 use Rattle.model.specs.Lists.{any, every, allOverEarlier, without, firstPlace, isBit}
@@ -21,7 +21,7 @@ use Rattle.model.specs.Words.{Fits, Sound, FirstApplies, none, here, later}
 use Rattle.model.specs.declared.Answer.{Answer}
 use Rattle.model.specs.declared.Row.{Row}
 use Rattle.model.specs.declared.Certificate.{Certificate}
-use Rattle.model.proofs.Tests.{and-right, is-true, of-true, of-false, not-of, refute, each, of-each, earlier-of}
+use Rattle.model.proofs.Tests.{and-right, is-true, of-true, of-false, each, of-each, earlier-of}
 use Rattle.model.proofs.Refusals.{first-applies, only-first}
 use Rattle.model.proofs.Parts.{without-none}
 use Rattle.model.proofs.Numbers.{decode-encode, encode-formed, sound-decode}
@@ -106,10 +106,10 @@ without-first p c earlier (x ∷ l) t a = go (sameCertificate c x) refl a (λ v.
     -- nothing behind is the same certificate once more
     alone : T (sameCertificate c x) → (y : Certificate) → List·Memᴰ y l → T (not (sameCertificate c y))
     alone s y m =
-        not-of (sameCertificate c y)
+        not-T (sameCertificate c y)
         (λ v.
         let e = earlier-of (certificateSound p) (earlier ++ (x ∷ [])) l rest y m in
-        refute (any (sameCertificate y) ((earlier ++ (x ∷ [])) ++ e .0)) (each (certificateClauses p ((earlier ++ (x ∷ [])) ++ e .0) y) (e .3) .1 .1 .1 .0)
+        T-not (any (sameCertificate y) ((earlier ++ (x ∷ [])) ++ e .0)) (each (certificateClauses p ((earlier ++ (x ∷ [])) ++ e .0) y) (e .3) .1 .1 .1 .0)
         (Rattle.model.proofs.Tests.of-any (sameCertificate y) x ((earlier ++ (x ∷ [])) ++ e .0) (mathlib.Core.List.Memᴰ·append-left (e .0) (Memᴰ·append-right earlier (List·Memᴰ·head refl))) (same-again c x y s v)))
 
     go : (b : Bool) → sameCertificate c x ≡ b → T (b || any (sameCertificate c) l) → (T (any (sameCertificate c) l) → without (sameCertificate c) l ≡ take (firstPlace (sameCertificate c) l) l ++ drop (suc (firstPlace (sameCertificate c) l)) l)
