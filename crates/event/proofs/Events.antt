@@ -2,7 +2,7 @@
 use Prim.Native.Nat.{ℕ, zero, suc, _-_, _≤_, _<_}
 use mathlib.Core.Path.{_≡_, refl, sym, ap, _∙_, subst, subst⁻¹}
 use mathlib.Core.Bool.{Bool, true, false}
-use mathlib.Core.Logic.{_⊎_, inl, inr, _≢_}
+use mathlib.Core.Logic.{_⊎_, inl, inr}
 use mathlib.Core.List.{List, [], _∷_}
 use native.Mathlib.Omega.{arith}
 use lib.Dec.{T}
@@ -76,13 +76,3 @@ standing-sound t s judged h e = record { policy = of-true (soundPolicy t) (sym (
 -- the answer of the call at a word's place is the line's
 pub answers-line : (t : Tables) (s s′ : List ℕ) (l : Line) (r : Answer) (w : ℕ) → l .word ≡ w → Answers t s (getD (calls l) (w - 3) fresh) r s′ → Answers t s (callOf l) r s′
 answers-line t s s′ l r w e a = subst (λ (c : Call). Answers t s c r s′) (call-is l w e) a
-
-past : (w n : ℕ) → n ≤ w → w ≢ n → suc n ≤ w
-past w n h e = omega arith
-
-last : (w : ℕ) → w < 11 → 10 ≤ w → w ≡ 10
-last w h k = omega arith
-
--- a word that is none of the seven events before it is the last
-pub last-word : (w : ℕ) → 3 ≤ w → w < 11 → w ≢ 3 → w ≢ 4 → w ≢ 5 → w ≢ 6 → w ≢ 7 → w ≢ 8 → w ≢ 9 → w ≡ 10
-last-word w h k a b c d e f g = last w k (past w 9 (past w 8 (past w 7 (past w 6 (past w 5 (past w 4 (past w 3 h a) b) c) d) e) f) g)

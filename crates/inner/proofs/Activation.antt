@@ -15,12 +15,11 @@ use Rattle.model.specs.Outcome.{given}
 use Rattle.model.specs.Calls.{activate, isUser, isRole, someRuleSatisfied, lowestRule, activateOn, courseOf}
 use Rattle.model.specs.Words.{Sound, FirstApplies, none, here, later}
 use Rattle.model.specs.declared.Answer.{Answer}
-use Rattle.model.proofs.Tests.{of-true, of-false}
+use Rattle.model.proofs.Tests.{of-true, of-false, found-any, not-found}
 use Rattle.table.specs.Entries.{worldAt, without-rights}
 use Rattle.table.proofs.Entries.{length-entries}
 use Rattle.table.proofs.Worlds.{satisfied-same}
 use Rattle.inner.specs.Lent.{lent, Answers}
-use Rattle.inner.proofs.First.{found-any, not-found}
 use Rattle.inner.proofs.Codes.{own-refuses, own-accepts, out-of-range, in-range, found, row-length}
 
 module _ (rules kinds rights s : List ℕ) (h : Sound (lent rules kinds rights) s) (u q : ℕ) where

@@ -1,7 +1,7 @@
 -- Tests over lists, in words: what it says that some element passes, that every element does, that every clause is true.
-use Prim.Native.Nat.{ℕ, zero, suc, _<_, _≤_}
+use Prim.Native.Nat.{ℕ, zero, suc, _+_, _<_, _≤_}
 use mathlib.Core.Path.{_≡_, refl, sym, ap, _∙_, subst, subst⁻¹}
-use mathlib.Core.Bool.{Bool, true, false, not, _&&_, _||_, cond}
+use mathlib.Core.Bool.{Bool, true, false, not, _&&_, _||_, cond, true≢false}
 use mathlib.Core.Logic.{_⊎_, inl, inr}
 use mathlib.Core.List.{List, [], _∷_, _++_, append-assoc, append-nil, List·Memᴰ, List·Memᴰ·head, List·Memᴰ·tail, List·Memᴰ·cases-cons, List·Memᴰ·not-nil}
 use native.Mathlib.Omega.{arith}
@@ -166,6 +166,31 @@ module _ {A : Type 0} where
           before zero h = of-false (test x) e
           before (suc i) h = later u .2 i (omega arith)
 
+  pub first-none : (test : A → Bool) (l : List A) → any test l ≡ false → firstPlace test l ≡ length l
+  first-none test [] e = refl
+  first-none test (x ∷ l) e = go (test x) e (first-none test l)
+    where
+      go : (b : Bool) → (b || any test l) ≡ false → (any test l ≡ false → firstPlace test l ≡ length l) → cond b 0 (suc (firstPlace test l)) ≡ suc (length l)
+      go true q f = absurd (true≢false q)
+      go false q f = ap suc (f q)
+
+  -- a place within the list is found exactly if something passes
+  pub found-any : (test : A → Bool) (l : List A) → firstPlace test l < length l → any test l ≡ true
+  found-any test [] h = absurd (omega arith)
+  found-any test (x ∷ l) h = go (test x) h (found-any test l)
+    where
+      go : (b : Bool) → cond b 0 (suc (firstPlace test l)) < suc (length l) → (firstPlace test l < length l → any test l ≡ true) → (b || any test l) ≡ true
+      go true q f = refl
+      go false q f = f (omega arith)
+
+  pub not-found : (test : A → Bool) (l : List A) → length l ≤ firstPlace test l → any test l ≡ false
+  not-found test [] h = refl
+  not-found test (x ∷ l) h = go (test x) h (not-found test l)
+    where
+      go : (b : Bool) → suc (length l) ≤ cond b 0 (suc (firstPlace test l)) → (length l ≤ firstPlace test l → any test l ≡ false) → (b || any test l) ≡ false
+      go true q f = absurd (omega arith)
+      go false q f = f (omega arith)
+
   -- every element over those before it: one more at the end
   pub earlier-append : (test : List A → A → Bool) (earlier xs ys : List A)
       → allOverEarlier test earlier (xs ++ ys) ≡ (allOverEarlier test earlier xs && allOverEarlier test (earlier ++ xs) ys)
@@ -218,3 +243,20 @@ below-at test (suc n) t k h = go (lt-or-ge k n) (below-at test n (and-left (belo
     go : (k < n) ⊎ (n ≤ k) → (k < n → test k ≡ true) → test k ≡ true
     go (inl l) earlier = earlier l
     go (inr l) earlier = let e : n ≡ k = omega arith in subst (λ (m : ℕ). test m ≡ true) e (is-true (test n) (and-right (below test n) (test n) t))
+
+-- ── the last arm of a match ──
+
+-- none of the n numbers from `low` on, as the last arm knows it
+abbrev pub NoneOf : ℕ → ℕ → ℕ → Type 0
+NoneOf number low zero = Unit {0}
+NoneOf number low (suc n) = NoneOf number low n × (number ≡ low + n → ⊥)
+
+past : (number low n : ℕ) → low ≤ number → NoneOf number low n → low + n ≤ number
+past number low zero h none = omega arith
+past number low (suc n) h none = next (past number low n h (none .0)) (none .1)
+  where
+    next : low + n ≤ number → (number ≡ low + n → ⊥) → low + suc n ≤ number
+    next l e = omega arith
+
+pub the-last : (number low n : ℕ) → low ≤ number → number < suc (low + n) → NoneOf number low n → number ≡ low + n
+the-last number low n h k none = let l = past number low n h none in omega arith

@@ -21,7 +21,7 @@ use Rattle.model.specs.Words.{Fits, Sound, FirstApplies, none, here, later}
 use Rattle.model.specs.declared.Answer.{Answer}
 use Rattle.model.specs.declared.Row.{Row}
 use Rattle.model.specs.declared.Certificate.{Certificate}
-use Rattle.model.proofs.Tests.{and-right, is-true, of-true, of-false, each, of-each, earlier-of}
+use Rattle.model.proofs.Tests.{and-right, is-true, of-true, of-false, each, of-each, earlier-of, found-any, not-found}
 use Rattle.model.proofs.Refusals.{first-applies, only-first}
 use Rattle.model.proofs.Parts.{without-none}
 use Rattle.model.proofs.Numbers.{decode-encode, encode-formed, sound-decode}
@@ -32,7 +32,6 @@ use Rattle.index.specs.Indexed.{InRange}
 use Rattle.fall.specs.Changes.{Left}
 use Rattle.fall.proofs.Form.{formed, sized}
 use Rattle.inner.specs.Lent.{lent, Answers}
-use Rattle.inner.proofs.First.{found-any, not-found}
 use Rattle.inner.proofs.Codes.{judged, own-refuses, own-accepts, out-of-range, in-range, found, certificate-length, some-kind}
 use Rattle.taking.specs.Fallen.{Fallen, fallenRows}
 use Rattle.taking.specs.Taken.{takenOn, Comes}
