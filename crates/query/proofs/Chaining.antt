@@ -21,9 +21,10 @@ use Rattle.model.proofs.Tests.{is-true, is-false, any-of}
 use Rattle.model.proofs.Parts.{without-append}
 use Rattle.model.proofs.Support.{isRow-user, isRow-role, rests-on-active, row-role, row-supported}
 use Rattle.table.specs.Entries.{rowAt, firstRows}
+use Rattle.table.proofs.Entries.{rows-more}
 use Rattle.fall.specs.Writes.{Zeroed}
 use Rattle.rests.specs.Newest.{newest}
-use Rattle.rests.proofs.Newest.{rows-more, row-for, newest-active, newest-within}
+use Rattle.rests.proofs.Newest.{row-for, newest-active, newest-within}
 use Rattle.query.proofs.Single.{sound-row, first-for, newest-stays}
 
 -- what is still to be written from a role on, at most so many roles; 256 stands for no role

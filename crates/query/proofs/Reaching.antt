@@ -20,8 +20,9 @@ use Rattle.model.proofs.Tests.{lt-or-ge, or-later, is-true, of-true, any-append
 use Rattle.model.proofs.Support.{isRow-role}
 use Rattle.model.proofs.Carried.{reverse-last}
 use Rattle.table.specs.Entries.{rowAt, firstRows, without-rights}
+use Rattle.table.proofs.Entries.{rows-more}
 use Rattle.rests.specs.Newest.{newest, Placed, placeIn}
-use Rattle.rests.proofs.Newest.{rows-more, newest-within, newest-keeps, row-for}
+use Rattle.rests.proofs.Newest.{newest-within, newest-keeps, row-for}
 use Rattle.rests.proofs.Placing.{place-there, place-of}
 use Rattle.rests.proofs.Asking.{roles-same}
 use Rattle.direct.specs.Having.{hasRight}

@@ -10,9 +10,10 @@ use lib.Dec.{T}
 use lib.ListN.{length, getD, take, drop, length-drop, length-take, List·getD-eq-default}
 use lib.Seq.{getD-take, getD-drop, drop-drop, take-suc, ext-getD, length-take-le}
 use Rattle.model.specs.Lists.{any, all, rowsOf}
+use Rattle.model.specs.Layout.{rowFrom, rowNumbers}
 use Rattle.model.proofs.Tests.{all-append, at-place, is-true, of-true, any-append, of-any, all-of}
 use Rattle.model.proofs.Numbers.{length-rows, length-map}
-use Rattle.table.specs.Entries.{entry, entries, ruleAt, kindAt, rightAt, rowAt, certificateAt}
+use Rattle.table.specs.Entries.{entry, entries, ruleAt, kindAt, rightAt, rowAt, firstRows, certificateAt}
 
 -- ── one entry more ──
 
@@ -49,6 +50,11 @@ module _ {A : Type 0} (from : List ℕ → A) (width : ℕ) where
 
   pub any-hit : (test : A → Bool) (table : List ℕ) (n j : ℕ) → j < n → test (entry from width table j) ≡ true → any test (entries from width table n) ≡ true
   any-hit test table n j h e = is-true (any test (entries from width table n)) (of-any test (entry from width table j) (entries from width table n) (entry-member table n j h) (of-true (test (entry from width table j)) e))
+
+-- the rows up to k, with row k behind them
+pub rows-more : (s : List ℕ) (k : ℕ) → firstRows s (suc k) ≡ firstRows s k ++ (rowAt s k ∷ [])
+unfolding firstRows rowAt
+rows-more s k = ap (firstRows s) (sym (add-one k)) ∙ entries-more rowFrom 3 (rowNumbers s) k
 
 -- ── a loop that looks for an element that fails, over a list by its places ──
 
