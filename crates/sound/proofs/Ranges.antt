@@ -13,11 +13,10 @@ use Rattle.model.specs.Sound.{rowClauses, rowSound, certificateClauses, certifi
 use Rattle.model.specs.declared.Row.{Row}
 use Rattle.model.proofs.Tests.{is-true, of-true, and-left, and-right, each, of-each, all-of, of-all, earlier-of}
 use Rattle.table.specs.Entries.{Sized}
-use Rattle.table.proofs.Entries.{length-entries}
+use Rattle.table.proofs.Entries.{length-entries, sized}
 use Rattle.index.specs.Indexed.{InRange}
 use Rattle.policy.specs.Lent.{kindsOnly}
 use Rattle.sound.specs.Ranges.{rangeClauses, rowInRange, CertificatesInRange}
-use Rattle.sound.proofs.Parts.{sized}
 
 row-range : (w : World) (earlier : List Row) (r : Row) → T (rowSound w earlier r) → T (rowInRange r)
 unfolding rowClauses rangeClauses

@@ -1,4 +1,5 @@
--- The laws by which loops over tables are proved: one entry more, an entry found, an entry missed; and what stands at each place.
+-- The laws by which loops over tables are proved: one entry more, an entry found, an entry missed; what stands at each place; and
+-- what a well formed state keeps to.
 use Prim.Native.Nat.{ℕ, zero, suc, _+_, _*_, _-_, _/_, _≤_, _<_}
 use mathlib.Core.Path.{_≡_, refl, sym, ap, _∙_, subst}
 use mathlib.Core.Bool.{Bool, true, false, _&&_, _||_}
@@ -6,14 +7,16 @@ use mathlib.Core.List.{List, [], _∷_, _++_, List·Memᴰ}
 use native.Mathlib.Omega.{arith}
 use native.Mathlib.Nat.{suc-mul, zero-mul, add-comm}
 use native.Mathlib.Numerals.{add-one}
-use lib.Dec.{T}
+use lib.Dec.{T, eqb→eq, leb→le}
 use lib.ListN.{length, getD, take, drop, length-drop, length-take, List·getD-eq-default}
 use lib.Seq.{getD-take, getD-drop, drop-drop, take-suc, ext-getD, length-take-le}
 use Rattle.model.specs.Lists.{any, all, rowsOf}
-use Rattle.model.specs.Layout.{rowFrom, rowNumbers}
-use Rattle.model.proofs.Tests.{all-append, at-place, is-true, of-true, any-append, of-any, all-of}
+use Rattle.model.specs.Limits.{stateSize, mostRows, mostCertificates}
+use Rattle.model.specs.Layout.{rowFrom, rowNumbers, rowCount, certificateCount}
+use Rattle.model.specs.Sound.{formClauses, wellFormed}
+use Rattle.model.proofs.Tests.{all-append, at-place, is-true, of-true, any-append, of-any, all-of, each}
 use Rattle.model.proofs.Numbers.{length-rows, length-map}
-use Rattle.table.specs.Entries.{entry, entries, ruleAt, kindAt, rightAt, rowAt, firstRows, certificateAt}
+use Rattle.table.specs.Entries.{entry, entries, ruleAt, kindAt, rightAt, rowAt, firstRows, certificateAt, Sized}
 
 -- ── one entry more ──
 
@@ -159,3 +162,14 @@ module _ (s : List ℕ) (i : ℕ) (h : i < 256) where
   pub certificate-places : certificateAt s i ≡ record { appointee = getD s (i * 3 + 834) 0; kind = getD s (i * 3 + 834 + 1) 0; appointer = getD s (i * 3 + 834 + 2) 0 }
   unfolding certificateAt
   certificate-places = λ j. record { appointee = first-table-number s 834 i h j; kind = table-number s 834 i 1 h (omega arith) j; appointer = table-number s 834 i 2 h (omega arith) j }
+
+-- ── a well formed state ──
+
+pub sized : (s : List ℕ) → wellFormed s ≡ true → Sized s
+unfolding formClauses
+sized s e =
+    record {
+      size = eqb→eq (length s) stateSize (each (formClauses s) (of-true (wellFormed s) e) .0);
+      rows = leb→le (rowCount s) mostRows (each (formClauses s) (of-true (wellFormed s) e) .1 .1 .0);
+      certificates = leb→le (certificateCount s) mostCertificates (each (formClauses s) (of-true (wellFormed s) e) .1 .1 .1 .0);
+    }
