@@ -6,7 +6,7 @@ use mathlib.Core.List.{List, [], _∷_, _++_}
 use native.Mathlib.Omega.{arith}
 use native.Mathlib.Numerals.{add-one}
 use lib.ListN.{length, getD, set, take, drop, length-set}
-use lib.Seq.{getD-set-same, getD-set-other, take-set-lt}
+use lib.Seq.{getD-set-same, getD-set-other, take-set-lt, ext-getD}
 use Rattle.model.specs.Records.{withRows, withCertificates, withFact}
 use Rattle.model.specs.Layout.{decode, encode, rowCount, certificateCount, certificateFrom, certificateNumbers}
 use Rattle.model.specs.declared.Row.{Row}
@@ -118,7 +118,7 @@ certificate-appended s s′ c f room a = as-encoded s′ (withCertificates (deco
 without-place : {A : Type 0} (d : A) (j : ℕ) (l l′ : List A) → j < length l → suc (length l′) ≡ length l → ((i : ℕ) → i < j → getD l′ i d ≡ getD l i d) → ((i : ℕ) → j ≤ i → i < length l′ → getD l′ i d ≡ getD l (suc i) d)
     → l′ ≡ take j l ++ drop (suc j) l
 without-place d zero [] l′ h e f g = absurd (omega arith)
-without-place d zero (x ∷ l) l′ h e f g = lib.Seq.ext-getD d l′ l (omega arith) (λ i k. g i (omega arith) k)
+without-place d zero (x ∷ l) l′ h e f g = ext-getD d l′ l (omega arith) (λ i k. g i (omega arith) k)
 without-place d (suc j) [] l′ h e f g = absurd (omega arith)
 without-place d (suc j) (x ∷ l) [] h e f g = absurd (omega arith)
 without-place d (suc j) (x ∷ l) (y ∷ l′) h e f g = λ i. f 0 (omega arith) i ∷ without-place d j l l′ (omega arith) (omega arith) (λ k m. f (suc k) (omega arith)) (λ k m n. g (suc k) (omega arith) (omega arith)) i

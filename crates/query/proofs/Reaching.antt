@@ -8,7 +8,7 @@ use native.Mathlib.Omega.{arith}
 use native.Mathlib.Numerals.{add-one}
 use lib.Dec.{eqb}
 use borrow.Author.Tests.{eqb-true, eqb-false}
-use lib.ListN.{length, getD, take, set, length-set, List·getD-eq-default}
+use lib.ListN.{length, getD, take, set, length-set, List·getD-eq-default, length-take}
 use lib.Seq.{getD-set-same, getD-set-other, take-suc, getD-take}
 use Rattle.model.specs.Lists.{any, joined}
 use Rattle.model.specs.Records.{Tables}
@@ -38,7 +38,7 @@ module _ {A : Type 0} (test : A → Bool) (l : List A) (d : A) where
 
   pub any-take-hit : (n i : ℕ) → i < n → i < length l → test (getD l i d) ≡ true → any test (take n l) ≡ true
   any-take-hit n i h k e =
-      is-true (any test (take n l)) (of-any test (getD l i d) (take n l) (subst (λ (x : A). List·Memᴰ x (take n l)) (getD-take n l i d h) (at-place (take n l) i d (simp lib.ListN.length-take (omega arith)))) (of-true (test (getD l i d)) e))
+      is-true (any test (take n l)) (of-any test (getD l i d) (take n l) (subst (λ (x : A). List·Memᴰ x (take n l)) (getD-take n l i d h) (at-place (take n l) i d (simp length-take (omega arith)))) (of-true (test (getD l i d)) e))
 
 module _ {A B : Type 0} (test : B → Bool) (f : A → List B) where
   pub any-joined : (l : List A) → any test (joined f l) ≡ any (λ (x : A). any test (f x)) l

@@ -7,15 +7,15 @@ use native.Mathlib.Omega.{arith}
 use native.Mathlib.Numerals.{add-one}
 use lib.Dec.{T, ltb→lt}
 use lib.ListN.{length, take, drop, length-take, length-drop}
-use Rattle.model.specs.Lists.{every}
+use Rattle.model.specs.Lists.{every, filledTo}
 use Rattle.model.specs.Records.{Tables}
 use Rattle.model.specs.Layout.{policyOf}
 use Rattle.model.specs.Sound.{soundPolicy, sound}
 use Rattle.model.specs.declared.Answer.{Answer}
 use Rattle.model.proofs.Tests.{of-true, each}
-use Rattle.program.specs.Text.{said}
+use Rattle.program.specs.Text.{said, valueOf}
 use Rattle.program.specs.Vocabulary.{wordOf}
-use Rattle.program.specs.Lines.{lineClauses, lineFrom, lineOfFields, lineOf}
+use Rattle.program.specs.Lines.{lineClauses, lineFrom, lineOfFields, lineOf, unknown}
 use Rattle.program.specs.Program.{Machine, answerRecord, badRecord, isFull, afterEvent, step, steps, callOf}
 use Rattle.program.specs.declared.Line.{Line}
 use Rattle.text.specs.Places.{part, recordEnd}
@@ -27,7 +27,7 @@ use Rattle.writer.proofs.Sizes.{answer-short, bad-short}
 use Rattle.writer.proofs.Records.{event-length}
 use Rattle.inner.specs.Lent.{Answers}
 use Rattle.load.specs.Rows.{running, linesFrom}
-use Rattle.load.proofs.Machines.{bad-is, event-not-bad, policy-after-event, unknown-bad, bad-written, event-taken}
+use Rattle.load.proofs.Machines.{bad-is, event-not-bad, policy-after-event, unknown-bad, bad-written, event-taken, some}
 use Rattle.event.specs.Standing.{Standing}
 use Rattle.session.specs.Output.{Holds}
 
@@ -39,7 +39,7 @@ unfolding lineFrom lineClauses
 fields-known [] = omega arith
 fields-known (first ∷ arguments) = go (every (lineClauses (wordOf first) arguments)) refl
   where
-    go : (b : Bool) → every (lineClauses (wordOf first) arguments) ≡ b → cond b (record { word = wordOf first; count = length arguments; numbers = Rattle.model.specs.Lists.filledTo 10 (map Rattle.program.specs.Text.valueOf arguments) }) Rattle.program.specs.Lines.unknown .word ≤ 11
+    go : (b : Bool) → every (lineClauses (wordOf first) arguments) ≡ b → cond b (record { word = wordOf first; count = length arguments; numbers = filledTo 10 (map valueOf arguments) }) unknown .word ≤ 11
     go true e = let k : wordOf first < 11 = ltb→lt (wordOf first) 11 (each (lineClauses (wordOf first) arguments) (of-true (every (lineClauses (wordOf first) arguments)) e) .0) in omega (arith, k)
     go false e = omega arith
 
@@ -107,7 +107,7 @@ module _ (t : Tables) (text : List ℕ) (from taken : ℕ) (s₀ : List ℕ) (ju
       eleven : 11 ≤ line .word → line .word ≡ 11
       eleven a = let k : line .word ≤ 11 = subst⁻¹ (λ (l : Line). l .word ≤ 11) e (line-known text at) in omega (arith, a, k)
 
-      done : Wrote out out′ w (badRecord (n + 1)) w′ → Rattle.load.proofs.Machines.some (line .word) (isFull 512 11 (t .rules)) (isFull 128 7 (t .kinds)) (isFull 2048 2 (t .rights)) true ≡ true → Holds out′ w′ (steps (running t s₀ taken []) (linesFrom text from) .written)
+      done : Wrote out out′ w (badRecord (n + 1)) w′ → some (line .word) (isFull 512 11 (t .rules)) (isFull 128 7 (t .kinds)) (isFull 2048 2 (t .rights)) true ≡ true → Holds out′ w′ (steps (running t s₀ taken []) (linesFrom text from) .written)
       done o b =
           record {
             within = omega (arith, o .place, o .size, g .room, g .fits, g .in-text, bad-short (n + 1) (omega (arith, g .few, g .in-text)));
