@@ -8,7 +8,7 @@ ghost use Rattle.model.specs.Words.{Sound};
 ghost use Rattle.program.specs.Vocabulary.{words, policyWords};
 ghost use Rattle.program.specs.Program.{callOf};
 ghost use Rattle.inner.specs.Lent.{lent, Answers};
-ghost use Rattle.event.specs.Standing.{Standing};
+ghost use Rattle.event.specs.Answerable.{Answerable};
 use model::Answer;
 use program::Line;
 
@@ -40,7 +40,7 @@ pub fn answer_event(
     state: &mut [u16],
     line: Line,
 ) -> Answer
-    requires { ⌜ Standing (lent (now rules) (now kinds) (now rights)) (now state) judged × (policyWords ≤ line .word) × (line .word < words) ⌝ }
+    requires { ⌜ Answerable (lent (now rules) (now kinds) (now rights)) (now state) judged × (policyWords ≤ line .word) × (line .word < words) ⌝ }
     ensures answer { λ r. ⌜ Answers (lent (now (rules .entry)) (now (kinds .entry)) (now (rights .entry))) (now (state .entry)) (callOf line) r (now (state .exit)) ⌝ }
     ensures kept { λ r. ⌜ T (sound (policyOf (lent (now (rules .entry)) (now (kinds .entry)) (now (rights .entry)))) (now (state .exit))) ⌝ }
 {

@@ -28,7 +28,7 @@ use Rattle.writer.proofs.Records.{event-length}
 use Rattle.inner.specs.Lent.{Answers}
 use Rattle.load.specs.Rows.{running, linesFrom}
 use Rattle.load.proofs.Machines.{bad-is, event-not-bad, policy-after-event, unknown-bad, bad-written, event-taken, some}
-use Rattle.event.specs.Standing.{Standing}
+use Rattle.event.specs.Answerable.{Answerable}
 use Rattle.session.specs.Output.{Holds}
 
 -- ── lines ──
@@ -66,11 +66,11 @@ pub record Runs (t : Tables) (text : List ℕ) (from taken : ℕ) (s₀ : List �
   pub few : n ≤ at
   pub room : w ≤ 2 * at
   pub fits : 2 * length text + 16 ≤ length out
-  pub standing : Standing t s judged
+  pub answerable : Answerable t s judged
   pub so-far : steps (running t s₀ taken []) (linesFrom text from) .written ≡ steps (running t s n (take w out)) (linesFrom text at) .written
 
 pub runs-start : (t : Tables) (text : List ℕ) (from taken : ℕ) (s : List ℕ) (judged : Bool) (out : List ℕ) → T (sound (policyOf t) s) → judged ≡ soundPolicy t → from ≤ length text → taken ≤ from → 2 * length text + 16 ≤ length out → Runs t text from taken s judged from taken 0 s out
-runs-start t text from taken s judged out h j a b c = record { in-text = a; few = b; room = omega arith; fits = c; standing = record { policy = j; state = h }; so-far = refl }
+runs-start t text from taken s judged out h j a b c = record { in-text = a; few = b; room = omega arith; fits = c; answerable = record { policy = j; state = h }; so-far = refl }
 
 module _ (t : Tables) (text : List ℕ) (from taken : ℕ) (s₀ : List ℕ) (judged : Bool) (at n w : ℕ) (s out : List ℕ) (g : Runs t text from taken s₀ judged at n w s out) where
   abbrev here : Machine
@@ -87,7 +87,7 @@ module _ (t : Tables) (text : List ℕ) (from taken : ℕ) (s₀ : List ℕ) (ju
         few = omega (arith, g .few, far);
         room = omega (arith, g .room, o .place, answer-short (r .code) (r .second) c₁ c₂, far);
         fits = omega (arith, g .fits, o .size);
-        standing = record { policy = g .standing .policy; state = v };
+        answerable = record { policy = g .answerable .policy; state = v };
         so-far =
             g .so-far
             ∙ ap (λ (ls : List Line). steps here ls .written) (lines-from text at h)
