@@ -17,7 +17,7 @@ use Rattle.model.specs.declared.Answer.{Answer}
 use Rattle.model.proofs.Tests.{lt-or-ge, of-true}
 use Rattle.model.proofs.Refusals.{refused-unchanged}
 use Rattle.model.proofs.Accepted.{accepted-sound}
-use Rattle.program.specs.Program.{callOf}
+use Rattle.program.specs.Program.{lineCall}
 use Rattle.program.specs.declared.Line.{Line}
 use Rattle.inner.specs.Lent.{Answers}
 use Rattle.calls.proofs.Judged.{unsound, no-policy}
@@ -34,8 +34,8 @@ calls l =
     let d = number (l .numbers) 3 in
     activate a b ∷ appoint a b c ∷ revoke a b c d ∷ withdraw a b c ∷ environment a b ∷ logout a ∷ invoke a b ∷ effective a b c ∷ []
 
-pub call-is : (l : Line) (w : ℕ) → l .word ≡ w → getD (calls l) (w - 3) fresh ≡ callOf l
-unfolding callOf
+pub call-is : (l : Line) (w : ℕ) → l .word ≡ w → getD (calls l) (w - 3) fresh ≡ lineCall l
+unfolding lineCall
 call-is l w e = ap (λ (n : ℕ). getD (calls l) (n - 3) fresh) (sym e)
 
 -- ── every event is judged first ──
@@ -52,14 +52,14 @@ at-place P [] e d i h = absurd (omega arith)
 at-place P (c ∷ cs) e d zero h = e .0
 at-place P (c ∷ cs) e d (suc i) h = at-place P cs (e .1) d i (omega arith)
 
-event-judged : (t : Tables) (s : List ℕ) (l : Line) → 3 ≤ l .word → l .word < 11 → JudgedFirst t s (callOf l)
-unfolding callOf courseOf
+event-judged : (t : Tables) (s : List ℕ) (l : Line) → 3 ≤ l .word → l .word < 11 → JudgedFirst t s (lineCall l)
+unfolding lineCall courseOf
 event-judged t s l h k = at-place (JudgedFirst t s) (calls l) ((_, refl), ((_, refl), ((_, refl), ((_, refl), ((_, refl), ((_, refl), ((_, refl), ((_, refl), tt)))))))) fresh (l .word - 3) (omega arith)
 
-pub malformed-answers : (t : Tables) (s : List ℕ) (l : Line) → 3 ≤ l .word → l .word < 11 → soundPolicy t ≡ false → (r : Answer) → r .code ≡ 1 → r .second ≡ 0 → Answers t s (callOf l) r s
+pub malformed-answers : (t : Tables) (s : List ℕ) (l : Line) → 3 ≤ l .word → l .word < 11 → soundPolicy t ≡ false → (r : Answer) → r .code ≡ 1 → r .second ≡ 0 → Answers t s (lineCall l) r s
 malformed-answers t s l h k e r a b =
-    let j : JudgedFirst t s (callOf l) = event-judged t s l h k in
-    unsound t s [] (callOf l) (j .0) (j .1) r b (λ z. omega arith) (a ∙ no-policy t s e)
+    let j : JudgedFirst t s (lineCall l) = event-judged t s l h k in
+    unsound t s [] (lineCall l) (j .0) (j .1) r b (λ z. omega arith) (a ∙ no-policy t s e)
 
 -- ── soundness is kept ──
 
@@ -74,5 +74,5 @@ pub answerable-sound : (t : Tables) (s : List ℕ) (judged : Bool) → Answerabl
 answerable-sound t s judged h e = record { policy = of-true (soundPolicy t) (sym (h .policy) ∙ e); state = h .state }
 
 -- the answer of the call at a word's place is the line's
-pub answers-line : (t : Tables) (s s′ : List ℕ) (l : Line) (r : Answer) (w : ℕ) → l .word ≡ w → Answers t s (getD (calls l) (w - 3) fresh) r s′ → Answers t s (callOf l) r s′
+pub answers-line : (t : Tables) (s s′ : List ℕ) (l : Line) (r : Answer) (w : ℕ) → l .word ≡ w → Answers t s (getD (calls l) (w - 3) fresh) r s′ → Answers t s (lineCall l) r s′
 answers-line t s s′ l r w e a = subst (λ (c : Call). Answers t s c r s′) (call-is l w e) a

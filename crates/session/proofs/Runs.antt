@@ -16,7 +16,7 @@ use Rattle.model.proofs.Tests.{of-true, each}
 use Rattle.program.specs.Text.{said, valueOf}
 use Rattle.program.specs.Vocabulary.{wordOf}
 use Rattle.program.specs.Lines.{lineClauses, lineFrom, lineOfFields, lineOf, unknown}
-use Rattle.program.specs.Program.{Machine, answerRecord, badRecord, isFull, afterEvent, step, steps, callOf}
+use Rattle.program.specs.Program.{Machine, answerRecord, badRecord, isFull, afterEvent, step, steps, lineCall}
 use Rattle.program.specs.declared.Line.{Line}
 use Rattle.text.specs.Places.{part, recordEnd}
 use Rattle.text.proofs.Ends.{record-within}
@@ -78,7 +78,7 @@ module _ (t : Tables) (text : List ℕ) (from taken : ℕ) (s₀ : List ℕ) (ju
 
   -- an event is answered
   pub runs-on : (line : Line) (next : ℕ) (r : Answer) (s′ out′ : List ℕ) (w′ : ℕ) → at < length text → line ≡ lineAt text at → next ≡ nextAt text at → 3 ≤ line .word → line .word < 11 → r .code < 65536 → r .second < 65536
-      → Answers t s (callOf line) r s′ → T (sound (policyOf t) s′) → Wrote out out′ w (answerRecord (r .code) (r .second)) w′ → Runs t text from taken s₀ judged next (n + 1) w′ s′ out′
+      → Answers t s (lineCall line) r s′ → T (sound (policyOf t) s′) → Wrote out out′ w (answerRecord (r .code) (r .second)) w′ → Runs t text from taken s₀ judged next (n + 1) w′ s′ out′
   unfolding afterEvent
   runs-on line next r s′ out′ w′ h e f a b c₁ c₂ k v o =
       let far : at + 7 ≤ next = subst⁻¹ (λ (x : ℕ). at + 7 ≤ x) f (event-behind text at h (subst⁻¹ (λ (l : Line). 3 ≤ l .word) (sym e) a) (subst⁻¹ (λ (l : Line). l .word < 11) (sym e) b)) in
