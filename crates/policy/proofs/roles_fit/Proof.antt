@@ -17,10 +17,10 @@ abbrev fits : ℕ → Bool
 fits q = ltb q 256
 
 abbrev Inv-loop : tie.InvT-loop
-Inv-loop counting n roles over₀ j₀ over j = (j ≤ 4) × (eqb over 0 ≡ mixed fits n (take j roles))
+Inv-loop counting n prerequisites over₀ j₀ over j = (j ≤ 4) × (eqb over 0 ≡ mixed fits n (take j prerequisites))
 
 abbrev μ-loop : tie.MeasureT-loop
-μ-loop counting n roles over₀ j₀ over j = 4 - j
+μ-loop counting n prerequisites over₀ j₀ over j = 4 - j
 
 loop-holds : tie.Need-loop-holds Inv-loop μ-loop
 loop-holds c = (search needs, refl)
