@@ -1,6 +1,6 @@
 -- Taking away what a list of withdrawals names: it keeps the form of a state, it takes no more from a longer list's point of view, and
 -- taking away two lists in turn is taking away both at once. All at once then leaves a sound state.
-use Prim.Native.Nat.{ℕ, zero, suc, _+_, _-_, _≤_, _<_}
+use Prim.Native.Nat.{ℕ, zero, suc, _-_, _≤_, _<_}
 use mathlib.Core.Path.{_≡_, refl, sym, ap, _∙_, subst, subst⁻¹}
 use mathlib.Core.Bool.{Bool, true, false, not, _||_, cond}
 use mathlib.Core.Logic.{_⊎_}

@@ -1,6 +1,5 @@
 use mathlib.Core.Path.{refl, sym, ap}
 use mathlib.Core.Bool.{Bool, cond}
-use borrow.Author.Needs.{needs}
 use Rattle.query.proofs.told.Statement.{statement}
 use Rattle.query.proofs.told.Tie as tie
 
