@@ -48,13 +48,8 @@ right-over over r =
     join-zero (bitOr over (r .role / 256)) (r .privilege / 1024)
     ∙ (λ i. join-zero over (r .role / 256) i && none-over (r .privilege) 1024 (omega arith) i)
     ∙ (λ i. (eqb over 0 && none-over (r .role) 256 (omega arith) i) && ltb (r .privilege) 1024)
-    ∙ join (eqb over 0) (ltb (r .role) 256) (ltb (r .privilege) 1024)
-  where
-    join : (a b c : Bool) → ((a && b) && c) ≡ (a && (b && (c && true)))
-    join true true true = refl
-    join true true false = refl
-    join true false c = refl
-    join false b c = refl
+    ∙ and-assoc (eqb over 0) (ltb (r .role) 256) (ltb (r .privilege) 1024)
+    ∙ ap (λ (v : Bool). eqb over 0 && (ltb (r .role) 256 && v)) (sym (and-true (ltb (r .privilege) 1024)))
 
 -- one right more
 pub right-more : (rights : List ℕ) (i over : ℕ) (r : Right) → r ≡ rightAt rights i → eqb over 0 ≡ all rightFits (entries rightFrom 2 rights i) → eqb (bitOr (bitOr over (r .role / 256)) (r .privilege / 1024)) 0 ≡ all rightFits (entries rightFrom 2 rights (i + 1))

@@ -8,14 +8,14 @@ use native.Mathlib.Omega.{arith}
 use native.Mathlib.Nat.{suc-mul, zero-mul, add-comm}
 use native.Mathlib.Numerals.{add-one}
 use lib.Dec.{T, eqb→eq, leb→le}
-use lib.ListN.{length, getD, take, drop, length-drop, length-take, List·getD-eq-default}
+use lib.ListN.{length, getD, take, drop, length-drop, length-take, List·getD-eq-default, length-map}
 use lib.Seq.{getD-take, getD-drop, drop-drop, take-suc, ext-getD, length-take-le}
 use Rattle.model.specs.Lists.{any, all, rowsOf}
 use Rattle.model.specs.Limits.{stateSize, mostRows, mostCertificates}
 use Rattle.model.specs.Layout.{rowFrom, rowNumbers, rowCount, certificateCount}
 use Rattle.model.specs.Sound.{formClauses, wellFormed}
 use Rattle.model.proofs.Tests.{all-append, at-place, is-true, of-true, any-append, of-any, all-of, each}
-use Rattle.model.proofs.Numbers.{length-rows, length-map}
+use Rattle.model.proofs.Numbers.{length-rows}
 use Rattle.table.specs.Entries.{entry, entries, ruleAt, kindAt, rightAt, rowAt, firstRows, certificateAt, Sized}
 
 -- ── one entry more ──
@@ -31,7 +31,7 @@ module _ {A : Type 0} (from : List ℕ → A) (width : ℕ) where
           ∙ ap (λ (l : List ℕ). from (take width table) ∷ (entries from width (drop width table) k ++ (from (take width l) ∷ []))) (drop-drop (k * width) width table ∙ ap (λ (n : ℕ). drop n table) (add-comm width (k * width) ∙ sym (suc-mul k width)))
 
   pub length-entries : (table : List ℕ) (k : ℕ) → length (entries from width table k) ≡ k
-  length-entries table k = length-map from (rowsOf width k table) ∙ length-rows width k table
+  length-entries table k = length-map (rowsOf width k table) from ∙ length-rows width k table
 
   -- entry i is among the first n, at its place
   pub entry-in : (table : List ℕ) (n i : ℕ) (d : A) → i < n → getD (entries from width table n) i d ≡ entry from width table i
