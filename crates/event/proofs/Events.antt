@@ -43,18 +43,18 @@ call-is l w e = ap (λ (n : ℕ). getD (calls l) (n - 3) fresh) (sym e)
 abbrev JudgedFirst : Tables → List ℕ → Call → Type 0
 JudgedFirst t s c = (course : Course) × (courseOf t s [] c ≡ judgedFirst t s course)
 
-abbrev Each : (Call → Type 0) → List Call → Type 0
-Each P [] = Unit {0}
-Each P (c ∷ cs) = P c × Each P cs
+abbrev EachCall : (Call → Type 0) → List Call → Type 0
+EachCall P [] = Unit {0}
+EachCall P (c ∷ cs) = P c × EachCall P cs
 
-at-place : (P : Call → Type 0) (cs : List Call) → Each P cs → (d : Call) (i : ℕ) → i < length cs → P (getD cs i d)
-at-place P [] e d i h = absurd (omega arith)
-at-place P (c ∷ cs) e d zero h = e .0
-at-place P (c ∷ cs) e d (suc i) h = at-place P cs (e .1) d i (omega arith)
+call-at : (P : Call → Type 0) (cs : List Call) → EachCall P cs → (d : Call) (i : ℕ) → i < length cs → P (getD cs i d)
+call-at P [] e d i h = absurd (omega arith)
+call-at P (c ∷ cs) e d zero h = e .0
+call-at P (c ∷ cs) e d (suc i) h = call-at P cs (e .1) d i (omega arith)
 
 event-judged : (t : Tables) (s : List ℕ) (l : Line) → 3 ≤ l .word → l .word < 11 → JudgedFirst t s (lineCall l)
 unfolding lineCall courseOf
-event-judged t s l h k = at-place (JudgedFirst t s) (calls l) ((_, refl), ((_, refl), ((_, refl), ((_, refl), ((_, refl), ((_, refl), ((_, refl), ((_, refl), tt)))))))) fresh (l .word - 3) (omega arith)
+event-judged t s l h k = call-at (JudgedFirst t s) (calls l) ((_, refl), ((_, refl), ((_, refl), ((_, refl), ((_, refl), ((_, refl), ((_, refl), ((_, refl), tt)))))))) fresh (l .word - 3) (omega arith)
 
 pub malformed-answers : (t : Tables) (s : List ℕ) (l : Line) → 3 ≤ l .word → l .word < 11 → soundPolicy t ≡ false → (r : Answer) → r .code ≡ 1 → r .second ≡ 0 → Answers t s (lineCall l) r s
 malformed-answers t s l h k e r a b =
