@@ -11,7 +11,6 @@ use Rattle.load.proofs.take_row.Tie as tie
 mul-append : tie.Need-mul-append
 mul-append c = omega (arith, rules-below (c .before .before .before .before .before .before .args .counts) (c .before .before .before .before .before .before .args .line) (c .before .before .before .before .before .before .pre .3) (c .before .if1 .taken))
 
--- src/lib.rt:123:39
 rule-row-requires : tie.Need-rule-row-requires
 rule-row-requires c κs = search needs
 
@@ -30,7 +29,6 @@ returns c = (with-rule (c .before .before .before .before .before .before .befor
 mul-append-2 : tie.Need-mul-append-2
 mul-append-2 c = omega (arith, kinds-below (c .before .before .before .before .before .before .before .before .args .counts) (c .before .before .before .before .before .before .before .before .args .line) (c .before .before .before .before .before .before .before .before .pre .3) (c .before .if2 .taken))
 
--- src/lib.rt:131:39
 kind-row-requires : tie.Need-kind-row-requires
 kind-row-requires c κs = search needs
 
@@ -49,7 +47,6 @@ returns-2 c = (with-kind (c .before .before .before .before .before .before .bef
 mul-append-3 : tie.Need-mul-append-3
 mul-append-3 c = omega (arith, rights-below (c .before .before .before .before .before .before .before .before .args .counts) (c .before .before .before .before .before .before .before .before .args .line) (c .before .before .before .before .before .before .before .before .pre .3) (is-right (c .before .before .before .before .before .before .before .before .args .counts) (c .before .before .before .before .before .before .before .before .args .line) (c .before .before .before .before .before .before .before .before .pre .3) (c .before .before .before .if1 .left) (c .before .if2 .left)))
 
--- src/lib.rt:138:37
 right-row-requires : tie.Need-right-row-requires
 right-row-requires c κs = search needs
 

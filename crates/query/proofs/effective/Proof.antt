@@ -41,7 +41,6 @@ wide-requires c κs = search needs
 places-of-requires : tie.Need-places-of-requires
 places-of-requires c κs = (sound-sized _ (c .before .before .before .before .before .before .before .args .state .now) (c .before .before .before .before .before .before .before .pre), roles-fit _ (c .before .before .before .before .before .before .before .args .state .now) (c .before .before .before .before .before .before .before .pre))
 
--- src/lib.rt:137:29
 slice-aggregate-place-in : tie.Need-slice-aggregate-place-in
 slice-aggregate-place-in c = search needs
 

@@ -5,19 +5,15 @@ use borrow.Author.Needs.{needs}
 use Rattle.rests.proofs.place_in.Statement.{statement}
 use Rattle.rests.proofs.place_in.Tie as tie
 
--- src/lib.rt:118:36
 wide-requires : tie.Need-wide-requires
 wide-requires c κs = search needs
 
--- src/lib.rt:118:29
 mul-wide : tie.Need-mul-wide
 mul-wide c = search needs
 
--- src/lib.rt:118:29
 shared-slice-read-wide : tie.Need-shared-slice-read-wide
 shared-slice-read-wide c = search needs
 
--- src/lib.rt:118:13
 wide-requires-2 : tie.Need-wide-requires-2
 wide-requires-2 c κs = search needs
 

@@ -18,7 +18,6 @@ abbrev μ-loop : tie.MeasureT-loop
 shared-slice-read-wide : tie.Need-shared-slice-read-wide Inv-loop μ-loop
 shared-slice-read-wide c = omega (arith, c .before .before .pre .0 .size)
 
--- src/lib.rt:100:9
 wide-requires : tie.Need-wide-requires Inv-loop μ-loop
 wide-requires c κs = search needs
 
@@ -34,25 +33,21 @@ add-i c = search needs
 cast-places : tie.Need-cast-places Inv-loop μ-loop
 cast-places c = omega (arith, c .before .before .before .before .loop .inv .1, c .before .before .before .before .before .before .before .before .pre .0 .rows)
 
--- src/lib.rt:106:20
 wide-requires-2 : tie.Need-wide-requires-2 Inv-loop μ-loop
 wide-requires-2 c κs = search needs
 
--- src/lib.rt:106:13
 mul-places : tie.Need-mul-places Inv-loop μ-loop
 mul-places c = search needs
 
 array-write-places : tie.Need-array-write-places Inv-loop μ-loop
 array-write-places c = omega (arith, c .wide2 .ensures, c .before .before .before .before .before .loop .inv .2, role-fits (c .before .before .before .before .before .before .before .before .before .args .state .now) (c .before .before .before .before .before .before .before .before .before .pre .1) (c .before .before .before .before .before .loop .i) (omega (arith, c .before .before .before .before .before .loop .inv .1)) (c .before .before .before .row-at .result) (c .before .before .before .row-at .ensures))
 
--- src/lib.rt:102:5
 loop-less : tie.Need-loop-less Inv-loop μ-loop
 loop-less c = search needs
 
 loop-again : tie.Need-loop-again Inv-loop μ-loop
 loop-again c = (omega arith, c .before .before .before .before .before .loop .inv .1, simp length-set (c .before .before .before .before .before .loop .inv .2), placed-more (c .before .before .before .before .before .before .before .before .before .args .state .now) (c .before .before .before .before .before .before .before .before .before .args .user) (c .before .before .before .before .before .loop .i) (c .wide2 .result) (c .before .before .before .row-at .result) (c .before .before .before .before .before .loop .places) (c .before .before .before .row-at .ensures) (c .before .if1 .taken) (c .wide2 .ensures) (omega (arith, c .wide2 .ensures, c .before .before .before .before .before .loop .inv .2, role-fits (c .before .before .before .before .before .before .before .before .before .args .state .now) (c .before .before .before .before .before .before .before .before .before .pre .1) (c .before .before .before .before .before .loop .i) (omega (arith, c .before .before .before .before .before .loop .inv .1)) (c .before .before .before .row-at .result) (c .before .before .before .row-at .ensures))) (c .before .before .before .before .before .loop .inv .3))
 
--- src/lib.rt:102:5
 loop-less-2 : tie.Need-loop-less-2 Inv-loop μ-loop
 loop-less-2 c = search needs
 
