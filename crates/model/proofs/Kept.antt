@@ -37,6 +37,14 @@ pub sound-state : (p : Policy) (t : State) → Fits t → T (allOverEarlier (cer
 unfolding soundRecords
 sound-state p t f c r = record { fits = f; records = and-both (allOverEarlier (certificateSound p) [] (t .certificates)) (allOverEarlier (rowSound (worldOf p t)) [] (t .rows)) c r }
 
+-- ── other rows, or other certificates, where there is room for them ──
+
+pub rows-fit : (t : State) (rows : List Row) → Fits t → length rows ≤ mostRows → Fits (withRows t rows)
+rows-fit t rows f room = record { all-facts = f .all-facts; bits = f .bits; room-for-rows = room; room-for-certificates = f .room-for-certificates }
+
+pub certificates-fit : (t : State) (certificates : List Certificate) → Fits t → length certificates ≤ mostCertificates → Fits (withCertificates t certificates)
+certificates-fit t certificates f room = record { all-facts = f .all-facts; bits = f .bits; room-for-rows = f .room-for-rows; room-for-certificates = room }
+
 -- ── a row is added ──
 
 length-last : {A : Type 0} (xs : List A) (x : A) → length (xs ++ (x ∷ [])) ≡ length xs + 1
@@ -45,12 +53,7 @@ length-last xs x = length-append xs (x ∷ [])
 pub row-added : (p : Policy) (t : State) (r : Row) → SoundState p t → length (t .rows) < mostRows → T (rowSound (worldOf p t) (t .rows) r) → SoundState p (withRows t (t .rows ++ (r ∷ [])))
 row-added p t r h room s =
     sound-state p (withRows t (t .rows ++ (r ∷ [])))
-    (record {
-      all-facts = h .fits .all-facts;
-      bits = h .fits .bits;
-      room-for-rows = omega (arith, length-last (t .rows) r);
-      room-for-certificates = h .fits .room-for-certificates;
-    })
+    (rows-fit t (t .rows ++ (r ∷ [])) (h .fits) (omega (arith, length-last (t .rows) r)))
     (sound-certificates p t h)
     (earlier-last (rowSound (worldOf p t)) (t .rows) r (sound-rows p t h) s)
 
@@ -103,12 +106,7 @@ pub certificate-added : (p : Policy) (t : State) (c : Certificate) → SoundStat
     → SoundState p (withCertificates t (t .certificates ++ (c ∷ [])))
 certificate-added p t c h room s =
     sound-state p (withCertificates t (t .certificates ++ (c ∷ [])))
-    (record {
-      all-facts = h .fits .all-facts;
-      bits = h .fits .bits;
-      room-for-rows = h .fits .room-for-rows;
-      room-for-certificates = omega (arith, length-last (t .certificates) c);
-    })
+    (certificates-fit t (t .certificates ++ (c ∷ [])) (h .fits) (omega (arith, length-last (t .certificates) c)))
     (earlier-last (certificateSound p) (t .certificates) c (sound-certificates p t h) s)
     (earlier-map (rowSound (worldOf p t)) (rowSound (worldOf p (withCertificates t (t .certificates ++ (c ∷ [])))))
     (λ earlier r v. row-stays p t (withCertificates t (t .certificates ++ (c ∷ []))) (record { certificates = λ x m. Memᴰ·append-left (c ∷ []) m; facts = λ f v. v }) earlier r v) [] (t .rows) (sound-rows p t h))
@@ -131,12 +129,7 @@ pub fallen-sound : (p : Policy) (before after : State) → SoundState p before �
     → T (allOverEarlier (rowSound (worldOf p before)) [] (after .rows)) → SoundState p (withRows after (left (supported (worldOf p after)) (after .rows)))
 fallen-sound p before after h f d rows =
     sound-state p (withRows after rest)
-    (record {
-      all-facts = f .all-facts;
-      bits = f .bits;
-      room-for-rows = omega (arith, part-length rest (after .rows) (left-part (supported (worldOf p after)) (after .rows)), f .room-for-rows);
-      room-for-certificates = f .room-for-certificates;
-    })
+    (rows-fit after rest f (omega (arith, part-length rest (after .rows) (left-part (supported (worldOf p after)) (after .rows)), f .room-for-rows)))
     (certificates-fewer p (after .certificates) (before .certificates) d (sound-certificates p before h))
     (left-earlier (supported (worldOf p after)) (rowSound (worldOf p before)) (rowSound (worldOf p after)) renews (after .rows) rows)
   where
@@ -180,12 +173,7 @@ rows-without-user p t gone by h = earlier-without (rowSound w) gone stays [] (t 
 pub users-gone : (p : Policy) (t : State) (gone : Row → Bool) → ByUser gone → SoundState p t → SoundState p (withRows t (without gone (t .rows)))
 users-gone p t gone by h =
     sound-state p (withRows t (without gone (t .rows)))
-    (record {
-      all-facts = h .fits .all-facts;
-      bits = h .fits .bits;
-      room-for-rows = omega (arith, part-length (without gone (t .rows)) (t .rows) (without-part gone (t .rows)), h .fits .room-for-rows);
-      room-for-certificates = h .fits .room-for-certificates;
-    })
+    (rows-fit t (without gone (t .rows)) (h .fits) (omega (arith, part-length (without gone (t .rows)) (t .rows) (without-part gone (t .rows)), h .fits .room-for-rows)))
     (sound-certificates p t h)
     (rows-without-user p t gone by (sound-rows p t h))
 

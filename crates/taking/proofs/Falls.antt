@@ -25,7 +25,7 @@ use Rattle.model.proofs.Tests.{and-right, is-true, of-true, of-false, each, of-
 use Rattle.model.proofs.Refusals.{first-applies, only-first}
 use Rattle.model.proofs.Parts.{without-none}
 use Rattle.model.proofs.Numbers.{decode-encode, encode-formed, sound-decode}
-use Rattle.model.proofs.Kept.{sound-certificates, fact-fits}
+use Rattle.model.proofs.Kept.{sound-certificates, fact-fits, certificates-fit}
 use Rattle.table.specs.Entries.{worldAt, without-rights}
 use Rattle.table.proofs.Entries.{sized}
 use Rattle.table.proofs.Worlds.{supported-same}
@@ -72,12 +72,8 @@ fallen-after rules kinds s₁ s′ v lost e f l =
 
 pub one-less-fits : (t : State) (j : ℕ) → Fits t → Fits (withCertificates t (take j (t .certificates) ++ drop (suc j) (t .certificates)))
 one-less-fits t j f =
-    record {
-      all-facts = f .all-facts;
-      bits = f .bits;
-      room-for-rows = f .room-for-rows;
-      room-for-certificates = omega (arith, length-append (take j (t .certificates)) (drop (suc j) (t .certificates)), length-take j (t .certificates), length-drop (suc j) (t .certificates), f .room-for-certificates);
-    }
+    certificates-fit t (take j (t .certificates) ++ drop (suc j) (t .certificates)) f
+    (omega (arith, length-append (take j (t .certificates)) (drop (suc j) (t .certificates)), length-take j (t .certificates), length-drop (suc j) (t .certificates), f .room-for-certificates))
 
 -- ── the certificate at its first place is the only one of its sort ──
 
