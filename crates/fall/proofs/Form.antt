@@ -5,7 +5,6 @@ use mathlib.Core.Bool.{Bool, true}
 use mathlib.Core.Logic.{_⊎_, inl, inr}
 use mathlib.Core.List.{List, [], _∷_, _++_}
 use native.Mathlib.Omega.{arith}
-use native.Mathlib.Numerals.{add-one}
 use lib.Dec.{T, eqb, eqb→eq, leb→le, le→leb}
 use lib.ListN.{length, getD, take, drop, length-take, length-drop, List·getD-eq-default}
 use lib.Seq.{getD-take, getD-drop, ext-getD, length-take-le}
@@ -19,7 +18,7 @@ use Rattle.model.specs.declared.Certificate.{Certificate}
 use Rattle.model.proofs.Tests.{lt-or-ge, of-true, and-left, and-right, and-both, each, of-each}
 use Rattle.model.proofs.Numbers.{encode-decode}
 use Rattle.table.specs.Entries.{entry, entries, rowAt, firstRows, certificateAt, firstCertificates}
-use Rattle.table.proofs.Entries.{entries-more, row-places, certificate-places, sized}
+use Rattle.table.proofs.Entries.{entries-next, row-places, certificate-places, sized}
 
 -- ── tests of all, by places ──
 
@@ -162,10 +161,7 @@ certificate-same s s′ i j a b h = certificate-places s′ j b ∙ three-same m
 -- tables that agree in their first entries
 pub entries-same : {A : Type 0} (from : List ℕ → A) (width : ℕ) (t t′ : List ℕ) (k : ℕ) → ((i : ℕ) → i < k → entry from width t′ i ≡ entry from width t i) → entries from width t′ k ≡ entries from width t k
 entries-same from width t t′ zero h = refl
-entries-same from width t t′ (suc k) h =
-    ap (entries from width t′) (sym (add-one k)) ∙ entries-more from width t′ k
-    ∙ (λ i. entries-same from width t t′ k (λ j l. h j (omega arith)) i ++ (h k (omega arith) i ∷ []))
-    ∙ sym (entries-more from width t k) ∙ ap (entries from width t) (add-one k)
+entries-same from width t t′ (suc k) h = entries-next from width t′ k ∙ (λ i. entries-same from width t t′ k (λ j l. h j (omega arith)) i ++ (h k (omega arith) i ∷ [])) ∙ sym (entries-next from width t k)
 
 pub rows-same : (s s′ : List ℕ) (k : ℕ) → k ≤ 256 → ((j : ℕ) → 65 ≤ j → j < k * 3 + 65 → getD s′ j 0 ≡ getD s j 0) → firstRows s′ k ≡ firstRows s k
 unfolding firstRows rowAt

@@ -6,7 +6,8 @@ use mathlib.Core.Logic.{_⊎_, inl, inr}
 use mathlib.Core.List.{List, [], _∷_, _++_, append-assoc, append-nil, List·Memᴰ, List·Memᴰ·head, List·Memᴰ·tail, List·Memᴰ·cases-cons, List·Memᴰ·not-nil}
 use native.Mathlib.Omega.{arith}
 use lib.Dec.{T, ltb, ltb→lt, nltb→le}
-use lib.ListN.{length, getD}
+use lib.ListN.{length, getD, take, length-take}
+use lib.Seq.{getD-take}
 use Rattle.model.specs.Lists.{every, any, all, allOverEarlier, firstPlace}
 
 -- ── one test ──
@@ -149,6 +150,10 @@ module _ {A : Type 0} where
   at-place [] i d h = absurd (omega arith)
   at-place (x ∷ xs) zero d h = List·Memᴰ·head refl
   at-place (x ∷ xs) (suc i) d h = List·Memᴰ·tail (at-place xs i d (omega arith))
+
+  -- and one of the first n, where the place is one of theirs
+  pub among-first : (xs : List A) (n i : ℕ) (d : A) → i < n → i < length xs → List·Memᴰ (getD xs i d) (take n xs)
+  among-first xs n i d h k = subst (λ (x : A). List·Memᴰ x (take n xs)) (getD-take n xs i d h) (at-place (take n xs) i d (simp length-take (omega arith)))
 
   -- the first place that passes, where some place does
   pub first-place : (test : A → Bool) (xs : List A) (d : A) → T (any test xs)

@@ -1,22 +1,22 @@
 -- Effective: what code asks row by row is the model's, and a row that does not carry the privilege need not be asked again.
 use Prim.Native.Nat.{ℕ, zero, suc, _+_, _-_, _≤_, _<_}
-use mathlib.Core.Path.{_≡_, refl, sym, ap, _∙_, subst, subst⁻¹}
+use mathlib.Core.Path.{_≡_, refl, sym, ap, _∙_, subst⁻¹}
 use mathlib.Core.Bool.{Bool, true, false, _||_, cond}
 use mathlib.Core.Logic.{_⊎_, inl, inr, _≢_}
-use mathlib.Core.List.{List, [], _∷_, reverse, List·Memᴰ}
+use mathlib.Core.List.{List, [], _∷_, reverse}
 use native.Mathlib.Omega.{arith}
 use native.Mathlib.Numerals.{add-one}
 use lib.Dec.{eqb}
 use borrow.Author.Tests.{eqb-true, eqb-false}
-use lib.ListN.{length, getD, take, set, length-set, List·getD-eq-default, length-take}
-use lib.Seq.{getD-set-same, getD-set-other, take-suc, getD-take}
+use lib.ListN.{length, getD, take, set, length-set, List·getD-eq-default}
+use lib.Seq.{getD-set-same, getD-set-other, take-suc}
 use Rattle.model.specs.Lists.{any, joined}
 use Rattle.model.specs.Records.{Tables}
 use Rattle.model.specs.Layout.{policyOf, rowCount}
 use Rattle.model.specs.Conditions.{role, meant, isRow, membership, ruleNumbered, rolesAsked, restsOn}
 use Rattle.model.specs.declared.Row.{Row}
 use Rattle.model.specs.Words.{Sound}
-use Rattle.model.proofs.Tests.{lt-or-ge, or-later, is-true, of-true, any-append, of-any, at-place}
+use Rattle.model.proofs.Tests.{lt-or-ge, or-later, is-true, of-true, any-append, of-any, among-first}
 use Rattle.model.proofs.Support.{isRow-role}
 use Rattle.model.proofs.Carried.{reverse-last}
 use Rattle.table.specs.Entries.{rowAt, firstRows, without-rights}
@@ -37,8 +37,7 @@ module _ {A : Type 0} (test : A → Bool) (l : List A) (d : A) where
   any-take-next i h a b = ap (λ (n : ℕ). any test (take n l)) (add-one i) ∙ ap (any test) (take-suc l i d h) ∙ any-append test (take i l) (getD l i d ∷ []) ∙ (λ j. a j || (b j || false))
 
   pub any-take-hit : (n i : ℕ) → i < n → i < length l → test (getD l i d) ≡ true → any test (take n l) ≡ true
-  any-take-hit n i h k e =
-      is-true (any test (take n l)) (of-any test (getD l i d) (take n l) (subst (λ (x : A). List·Memᴰ x (take n l)) (getD-take n l i d h) (at-place (take n l) i d (simp length-take (omega arith)))) (of-true (test (getD l i d)) e))
+  any-take-hit n i h k e = is-true (any test (take n l)) (of-any test (getD l i d) (take n l) (among-first l n i d h k) (of-true (test (getD l i d)) e))
 
 module _ {A B : Type 0} (test : B → Bool) (f : A → List B) where
   pub any-joined : (l : List A) → any test (joined f l) ≡ any (λ (x : A). any test (f x)) l
