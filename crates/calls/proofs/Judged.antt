@@ -61,6 +61,6 @@ unfolding courseOf freshOn
 fresh-length s r a b n = refuses (lent [] [] []) s [] fresh r 2 (omega arith) (a, b) (here (of-false (eqb (length s) 1602) (ne-eqb (length s) 1602 n)))
 
 -- a sound policy has at most 128 kinds
-pub few-kinds : (t : Tables) → soundPolicy t ≡ true → length (t .kinds) / 7 ≤ 128
+pub sound-kinds : (t : Tables) → soundPolicy t ≡ true → length (t .kinds) / 7 ≤ 128
 unfolding policyClauses policyOf
-few-kinds t e = omega (arith, leb→le (length (policyOf t .kinds)) 128 (each (policyClauses t) (of-true (soundPolicy t) e) .1 .1 .1 .1 .0), length-entries kindFrom 7 (t .kinds) (length (t .kinds) / 7))
+sound-kinds t e = omega (arith, leb→le (length (policyOf t .kinds)) 128 (each (policyClauses t) (of-true (soundPolicy t) e) .1 .1 .1 .1 .0), length-entries kindFrom 7 (t .kinds) (length (t .kinds) / 7))

@@ -4,18 +4,18 @@ use mathlib.Core.Path.{_≡_, sym, ap, _∙_, subst⁻¹}
 use mathlib.Core.Logic.{_≢_, _⊎_, inl, inr}
 use mathlib.Core.List.{List, [], _∷_, _++_}
 use native.Mathlib.Omega.{arith}
+use native.Mathlib.Numerals.{add-one}
 use lib.ListN.{length, getD, set, take, drop, length-set}
-use lib.Seq.{getD-set-same, getD-set-other, take-set-lt}
+use lib.Seq.{getD-set-same, getD-set-other, take-set-lt, ext-getD}
 use Rattle.model.specs.Records.{withRows, withCertificates, withFact}
 use Rattle.model.specs.Layout.{decode, encode, rowCount, certificateCount, certificateFrom, certificateNumbers}
 use Rattle.model.specs.declared.Row.{Row}
 use Rattle.model.specs.declared.Certificate.{Certificate}
 use Rattle.model.proofs.Tests.{lt-or-ge}
 use Rattle.table.specs.Entries.{rowAt, firstRows, certificateAt, firstCertificates}
-use Rattle.table.proofs.Entries.{entries-more, row-places, certificate-places, entry-in, length-entries}
+use Rattle.table.proofs.Entries.{entries-more, row-places, certificate-places, entry-in, length-entries, rows-more}
 use Rattle.fall.specs.Writes.{Moved, Zeroed}
 use Rattle.fall.proofs.Form.{threeAt, makeRow, makeCertificate, Formed, as-encoded, facts-same, certificates-same, rows-all-same, rows-same, certificate-same, certificates-first-same}
-use Rattle.fall.proofs.Swept.{rows-more}
 use Rattle.change.specs.Appended.{Appended}
 
 -- ── one entry more ──
@@ -74,7 +74,7 @@ row-appended s s′ r f room a = as-encoded s′ (withRows (decode s) (decode s 
     new = row-places s′ (rowCount s) room ∙ new-three makeRow s s′ 64 (r .user) (r .role) (r .rule) a
 
     rows : firstRows s′ (rowCount s′) ≡ firstRows s (rowCount s) ++ (r ∷ [])
-    rows = ap (firstRows s′) (a .count) ∙ rows-more s′ (rowCount s) ∙ (λ j. rows-same s s′ (rowCount s) (f .rows) (λ k h l. a .kept k (omega arith) (omega arith)) j ++ (new j ∷ []))
+    rows = ap (firstRows s′) (a .count ∙ add-one (rowCount s)) ∙ rows-more s′ (rowCount s) ∙ (λ j. rows-same s s′ (rowCount s) (f .rows) (λ k h l. a .kept k (omega arith) (omega arith)) j ++ (new j ∷ []))
 
     form : Formed s′
     form =
@@ -118,7 +118,7 @@ certificate-appended s s′ c f room a = as-encoded s′ (withCertificates (deco
 without-place : {A : Type 0} (d : A) (j : ℕ) (l l′ : List A) → j < length l → suc (length l′) ≡ length l → ((i : ℕ) → i < j → getD l′ i d ≡ getD l i d) → ((i : ℕ) → j ≤ i → i < length l′ → getD l′ i d ≡ getD l (suc i) d)
     → l′ ≡ take j l ++ drop (suc j) l
 without-place d zero [] l′ h e f g = absurd (omega arith)
-without-place d zero (x ∷ l) l′ h e f g = lib.Seq.ext-getD d l′ l (omega arith) (λ i k. g i (omega arith) k)
+without-place d zero (x ∷ l) l′ h e f g = ext-getD d l′ l (omega arith) (λ i k. g i (omega arith) k)
 without-place d (suc j) [] l′ h e f g = absurd (omega arith)
 without-place d (suc j) (x ∷ l) [] h e f g = absurd (omega arith)
 without-place d (suc j) (x ∷ l) (y ∷ l′) h e f g = λ i. f 0 (omega arith) i ∷ without-place d j l l′ (omega arith) (omega arith) (λ k m. f (suc k) (omega arith)) (λ k m n. g (suc k) (omega arith) (omega arith)) i

@@ -2,7 +2,7 @@
 use Prim.Native.Nat.{ℕ, zero, suc, _-_, _≤_, _<_}
 use mathlib.Core.Path.{_≡_, refl, sym, ap, _∙_, subst, subst⁻¹}
 use mathlib.Core.Bool.{Bool, true, false}
-use mathlib.Core.Logic.{_⊎_, inl, inr, _≢_}
+use mathlib.Core.Logic.{_⊎_, inl, inr}
 use mathlib.Core.List.{List, [], _∷_}
 use native.Mathlib.Omega.{arith}
 use lib.Dec.{T}
@@ -17,11 +17,11 @@ use Rattle.model.specs.declared.Answer.{Answer}
 use Rattle.model.proofs.Tests.{lt-or-ge, of-true}
 use Rattle.model.proofs.Refusals.{refused-unchanged}
 use Rattle.model.proofs.Accepted.{accepted-sound}
-use Rattle.program.specs.Program.{callOf}
+use Rattle.program.specs.Program.{lineCall}
 use Rattle.program.specs.declared.Line.{Line}
 use Rattle.inner.specs.Lent.{Answers}
 use Rattle.calls.proofs.Judged.{unsound, no-policy}
-use Rattle.event.specs.Standing.{Standing}
+use Rattle.event.specs.Answerable.{Answerable}
 
 -- ── the call of a line ──
 
@@ -34,8 +34,8 @@ calls l =
     let d = number (l .numbers) 3 in
     activate a b ∷ appoint a b c ∷ revoke a b c d ∷ withdraw a b c ∷ environment a b ∷ logout a ∷ invoke a b ∷ effective a b c ∷ []
 
-pub call-is : (l : Line) (w : ℕ) → l .word ≡ w → getD (calls l) (w - 3) fresh ≡ callOf l
-unfolding callOf
+pub call-is : (l : Line) (w : ℕ) → l .word ≡ w → getD (calls l) (w - 3) fresh ≡ lineCall l
+unfolding lineCall
 call-is l w e = ap (λ (n : ℕ). getD (calls l) (n - 3) fresh) (sym e)
 
 -- ── every event is judged first ──
@@ -43,23 +43,23 @@ call-is l w e = ap (λ (n : ℕ). getD (calls l) (n - 3) fresh) (sym e)
 abbrev JudgedFirst : Tables → List ℕ → Call → Type 0
 JudgedFirst t s c = (course : Course) × (courseOf t s [] c ≡ judgedFirst t s course)
 
-abbrev Each : (Call → Type 0) → List Call → Type 0
-Each P [] = Unit {0}
-Each P (c ∷ cs) = P c × Each P cs
+abbrev EachCall : (Call → Type 0) → List Call → Type 0
+EachCall P [] = Unit {0}
+EachCall P (c ∷ cs) = P c × EachCall P cs
 
-at-place : (P : Call → Type 0) (cs : List Call) → Each P cs → (d : Call) (i : ℕ) → i < length cs → P (getD cs i d)
-at-place P [] e d i h = absurd (omega arith)
-at-place P (c ∷ cs) e d zero h = e .0
-at-place P (c ∷ cs) e d (suc i) h = at-place P cs (e .1) d i (omega arith)
+call-at : (P : Call → Type 0) (cs : List Call) → EachCall P cs → (d : Call) (i : ℕ) → i < length cs → P (getD cs i d)
+call-at P [] e d i h = absurd (omega arith)
+call-at P (c ∷ cs) e d zero h = e .0
+call-at P (c ∷ cs) e d (suc i) h = call-at P cs (e .1) d i (omega arith)
 
-event-judged : (t : Tables) (s : List ℕ) (l : Line) → 3 ≤ l .word → l .word < 11 → JudgedFirst t s (callOf l)
-unfolding callOf courseOf
-event-judged t s l h k = at-place (JudgedFirst t s) (calls l) ((_, refl), ((_, refl), ((_, refl), ((_, refl), ((_, refl), ((_, refl), ((_, refl), ((_, refl), tt)))))))) fresh (l .word - 3) (omega arith)
+event-judged : (t : Tables) (s : List ℕ) (l : Line) → 3 ≤ l .word → l .word < 11 → JudgedFirst t s (lineCall l)
+unfolding lineCall courseOf
+event-judged t s l h k = call-at (JudgedFirst t s) (calls l) ((_, refl), ((_, refl), ((_, refl), ((_, refl), ((_, refl), ((_, refl), ((_, refl), ((_, refl), tt)))))))) fresh (l .word - 3) (omega arith)
 
-pub malformed-answers : (t : Tables) (s : List ℕ) (l : Line) → 3 ≤ l .word → l .word < 11 → soundPolicy t ≡ false → (r : Answer) → r .code ≡ 1 → r .second ≡ 0 → Answers t s (callOf l) r s
+pub malformed-answers : (t : Tables) (s : List ℕ) (l : Line) → 3 ≤ l .word → l .word < 11 → soundPolicy t ≡ false → (r : Answer) → r .code ≡ 1 → r .second ≡ 0 → Answers t s (lineCall l) r s
 malformed-answers t s l h k e r a b =
-    let j : JudgedFirst t s (callOf l) = event-judged t s l h k in
-    unsound t s [] (callOf l) (j .0) (j .1) r b (λ z. omega arith) (a ∙ no-policy t s e)
+    let j : JudgedFirst t s (lineCall l) = event-judged t s l h k in
+    unsound t s [] (lineCall l) (j .0) (j .1) r b (λ z. omega arith) (a ∙ no-policy t s e)
 
 -- ── soundness is kept ──
 
@@ -70,19 +70,9 @@ keeps-sound t s s′ c r h a = go (lt-or-ge 0 (answer t s [] c .code))
     go (inl n) = subst⁻¹ (λ (l : List ℕ). T (sound (policyOf t) l)) (a .state-kept ∙ refused-unchanged t s [] c (λ z. omega arith) .state-same) h
     go (inr n) = subst⁻¹ (λ (l : List ℕ). T (sound (policyOf t) l)) (a .state-kept) (accepted-sound t s [] c (omega arith))
 
-pub standing-sound : (t : Tables) (s : List ℕ) (judged : Bool) → Standing t s judged → judged ≡ true → Sound t s
-standing-sound t s judged h e = record { policy = of-true (soundPolicy t) (sym (h .policy) ∙ e); state = h .state }
+pub answerable-sound : (t : Tables) (s : List ℕ) (judged : Bool) → Answerable t s judged → judged ≡ true → Sound t s
+answerable-sound t s judged h e = record { policy = of-true (soundPolicy t) (sym (h .policy) ∙ e); state = h .state }
 
 -- the answer of the call at a word's place is the line's
-pub answers-line : (t : Tables) (s s′ : List ℕ) (l : Line) (r : Answer) (w : ℕ) → l .word ≡ w → Answers t s (getD (calls l) (w - 3) fresh) r s′ → Answers t s (callOf l) r s′
+pub answers-line : (t : Tables) (s s′ : List ℕ) (l : Line) (r : Answer) (w : ℕ) → l .word ≡ w → Answers t s (getD (calls l) (w - 3) fresh) r s′ → Answers t s (lineCall l) r s′
 answers-line t s s′ l r w e a = subst (λ (c : Call). Answers t s c r s′) (call-is l w e) a
-
-past : (w n : ℕ) → n ≤ w → w ≢ n → suc n ≤ w
-past w n h e = omega arith
-
-last : (w : ℕ) → w < 11 → 10 ≤ w → w ≡ 10
-last w h k = omega arith
-
--- a word that is none of the seven events before it is the last
-pub last-word : (w : ℕ) → 3 ≤ w → w < 11 → w ≢ 3 → w ≢ 4 → w ≢ 5 → w ≢ 6 → w ≢ 7 → w ≢ 8 → w ≢ 9 → w ≡ 10
-last-word w h k a b c d e f g = last w k (past w 9 (past w 8 (past w 7 (past w 6 (past w 5 (past w 4 (past w 3 h a) b) c) d) e) f) g)

@@ -6,16 +6,16 @@ ghost use Rattle.model.specs.Layout.{policyOf};
 ghost use Rattle.model.specs.Sound.{sound};
 ghost use Rattle.model.specs.Words.{Sound};
 ghost use Rattle.program.specs.Vocabulary.{words, policyWords};
-ghost use Rattle.program.specs.Program.{callOf};
+ghost use Rattle.program.specs.Program.{lineCall};
 ghost use Rattle.inner.specs.Lent.{lent, Answers};
-ghost use Rattle.event.specs.Standing.{Standing};
+ghost use Rattle.event.specs.Answerable.{Answerable};
 use model::Answer;
 use program::Line;
 
 // The call that the line makes, on sound tables.
 fn call(rules: &[u16], kinds: &[u16], rights: &[u16], state: &mut [u16], line: Line) -> Answer
     requires { ⌜ Sound (lent (now rules) (now kinds) (now rights)) (now state) × (policyWords ≤ line .word) × (line .word < words) ⌝ }
-    ensures { λ r. ⌜ Answers (lent (now (rules .entry)) (now (kinds .entry)) (now (rights .entry))) (now (state .entry)) (callOf line) r (now (state .exit)) ⌝ }
+    ensures { λ r. ⌜ Answers (lent (now (rules .entry)) (now (kinds .entry)) (now (rights .entry))) (now (state .entry)) (lineCall line) r (now (state .exit)) ⌝ }
 {
     let word = line.word;
     let n = line.numbers;
@@ -40,8 +40,8 @@ pub fn answer_event(
     state: &mut [u16],
     line: Line,
 ) -> Answer
-    requires { ⌜ Standing (lent (now rules) (now kinds) (now rights)) (now state) judged × (policyWords ≤ line .word) × (line .word < words) ⌝ }
-    ensures answer { λ r. ⌜ Answers (lent (now (rules .entry)) (now (kinds .entry)) (now (rights .entry))) (now (state .entry)) (callOf line) r (now (state .exit)) ⌝ }
+    requires { ⌜ Answerable (lent (now rules) (now kinds) (now rights)) (now state) judged × (policyWords ≤ line .word) × (line .word < words) ⌝ }
+    ensures answer { λ r. ⌜ Answers (lent (now (rules .entry)) (now (kinds .entry)) (now (rights .entry))) (now (state .entry)) (lineCall line) r (now (state .exit)) ⌝ }
     ensures kept { λ r. ⌜ T (sound (policyOf (lent (now (rules .entry)) (now (kinds .entry)) (now (rights .entry)))) (now (state .exit))) ⌝ }
 {
     if !judged {

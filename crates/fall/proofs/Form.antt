@@ -5,7 +5,6 @@ use mathlib.Core.Bool.{Bool, true}
 use mathlib.Core.Logic.{_⊎_, inl, inr}
 use mathlib.Core.List.{List, [], _∷_, _++_}
 use native.Mathlib.Omega.{arith}
-use native.Mathlib.Numerals.{add-one}
 use lib.Dec.{T, eqb, eqb→eq, leb→le, le→leb}
 use lib.ListN.{length, getD, take, drop, length-take, length-drop, List·getD-eq-default}
 use lib.Seq.{getD-take, getD-drop, ext-getD, length-take-le}
@@ -18,8 +17,8 @@ use Rattle.model.specs.declared.Row.{Row}
 use Rattle.model.specs.declared.Certificate.{Certificate}
 use Rattle.model.proofs.Tests.{lt-or-ge, of-true, and-left, and-right, and-both, each, of-each}
 use Rattle.model.proofs.Numbers.{encode-decode}
-use Rattle.table.specs.Entries.{entry, entries, rowAt, firstRows, certificateAt, firstCertificates, Sized}
-use Rattle.table.proofs.Entries.{entries-more, row-places, certificate-places}
+use Rattle.table.specs.Entries.{entry, entries, rowAt, firstRows, certificateAt, firstCertificates}
+use Rattle.table.proofs.Entries.{entries-next, row-places, certificate-places, sized}
 
 -- ── tests of all, by places ──
 
@@ -42,9 +41,6 @@ pub record Formed (s : List ℕ) : Type 0 where
   pub certificates : certificateCount s ≤ mostCertificates
   pub rows-end : (k : ℕ) → rowCount s * 3 + 65 ≤ k → k < 833 → getD s k 0 ≡ 0
   pub certificates-end : (k : ℕ) → certificateCount s * 3 + 834 ≤ k → getD s k 0 ≡ 0
-
-pub sized : (s : List ℕ) → Formed s → Sized s
-sized s f = record { size = f .size; rows = f .rows; certificates = f .certificates }
 
 -- number i behind the first a of a table at a place of the state
 behind : (s : List ℕ) (place a i : ℕ) → a + i < 768 → getD (drop a (take 768 (drop place s))) i 0 ≡ getD s (place + (a + i)) 0
@@ -78,12 +74,13 @@ pub formed : (s : List ℕ) → wellFormed s ≡ true → Formed s
 unfolding formClauses
 formed s w =
     let t = each (formClauses s) (of-true (wellFormed s) w) in
-    let e : length s ≡ stateSize = eqb→eq (length s) stateSize (t .0) in
+    let z = sized s w in
+    let e : length s ≡ stateSize = z .size in
     record {
       size = e;
       bits = λ k h. subst (λ (n : ℕ). n ≤ 1) (getD-take 64 s k 0 h) (leb→le _ 1 (all-place isBit (take 64 s) k (t .1 .0) (omega (arith, length-take-le 64 s (omega arith)))));
-      rows = leb→le (rowCount s) mostRows (t .1 .1 .0);
-      certificates = leb→le (certificateCount s) mostCertificates (t .1 .1 .1 .0);
+      rows = z .rows;
+      certificates = z .certificates;
       rows-end = λ k a b. zeros-behind s 65 (rowCount s * 3) e (omega arith) (t .1 .1 .1 .1 .0) k a b;
       certificates-end = λ k a. past s e (t .1 .1 .1 .1 .1 .0) k a (lt-or-ge k 1602);
     }
@@ -164,10 +161,7 @@ certificate-same s s′ i j a b h = certificate-places s′ j b ∙ three-same m
 -- tables that agree in their first entries
 pub entries-same : {A : Type 0} (from : List ℕ → A) (width : ℕ) (t t′ : List ℕ) (k : ℕ) → ((i : ℕ) → i < k → entry from width t′ i ≡ entry from width t i) → entries from width t′ k ≡ entries from width t k
 entries-same from width t t′ zero h = refl
-entries-same from width t t′ (suc k) h =
-    ap (entries from width t′) (sym (add-one k)) ∙ entries-more from width t′ k
-    ∙ (λ i. entries-same from width t t′ k (λ j l. h j (omega arith)) i ++ (h k (omega arith) i ∷ []))
-    ∙ sym (entries-more from width t k) ∙ ap (entries from width t) (add-one k)
+entries-same from width t t′ (suc k) h = entries-next from width t′ k ∙ (λ i. entries-same from width t t′ k (λ j l. h j (omega arith)) i ++ (h k (omega arith) i ∷ [])) ∙ sym (entries-next from width t k)
 
 pub rows-same : (s s′ : List ℕ) (k : ℕ) → k ≤ 256 → ((j : ℕ) → 65 ≤ j → j < k * 3 + 65 → getD s′ j 0 ≡ getD s j 0) → firstRows s′ k ≡ firstRows s k
 unfolding firstRows rowAt

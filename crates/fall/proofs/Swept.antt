@@ -5,6 +5,7 @@ use mathlib.Core.Bool.{Bool, true, false, not, cond}
 use mathlib.Core.Logic.{_≢_, _⊎_, inl, inr}
 use mathlib.Core.List.{List, [], _∷_, _++_, append-assoc, append-nil}
 use native.Mathlib.Omega.{arith}
+use native.Mathlib.Numerals.{add-one}
 use lib.ListN.{length, getD, set, length-set}
 use lib.Seq.{getD-set-same, getD-set-other}
 use Rattle.model.specs.Lists.{without}
@@ -15,7 +16,7 @@ use Rattle.model.specs.declared.Row.{Row}
 use Rattle.model.proofs.Sweep.{left-last}
 use Rattle.model.proofs.Tests.{lt-or-ge}
 use Rattle.table.specs.Entries.{rowAt, firstRows, without-rights, worldAt, Sized}
-use Rattle.table.proofs.Entries.{entries-more, length-entries}
+use Rattle.table.proofs.Entries.{rows-more, length-entries}
 use Rattle.model.specs.declared.Certificate.{Certificate}
 use Rattle.marks.specs.Marks.{Marked}
 use Rattle.index.specs.Indexed.{baseOf, Indexed}
@@ -46,13 +47,9 @@ unfolding decode
 swept-world rules kinds ok s₀ s i w h p =
     λ j. record { policy = policyOf (without-rights rules kinds); facts = facts-same s₀ s (p .size) (λ k l. p .below k (omega arith)) j; certificates = swept-certificates ok s₀ s i w h p j }
 
-pub rows-more : (s : List ℕ) (k : ℕ) → firstRows s (k + 1) ≡ firstRows s k ++ (rowAt s k ∷ [])
-unfolding firstRows rowAt
-rows-more s k = entries-more rowFrom 3 (rowNumbers s) k
-
 -- a row moved behind the rows kept
 pub kept-rows : (s s′ : List ℕ) (w i : ℕ) → w ≤ i → i < 256 → Moved s s′ (rowPlace i) (rowPlace w) 3 → firstRows s′ (w + 1) ≡ firstRows s w ++ (rowAt s i ∷ [])
-kept-rows s s′ w i h l m = rows-more s′ w ∙ (λ k. rows-same s s′ w (omega arith) (λ j a b. m .below j b) k ++ (row-same s s′ i w l (omega arith) (λ j b. m .inside j b) k ∷ []))
+kept-rows s s′ w i h l m = ap (firstRows s′) (add-one w) ∙ rows-more s′ w ∙ (λ k. rows-same s s′ w (omega arith) (λ j a b. m .below j b) k ++ (row-same s s′ i w l (omega arith) (λ j b. m .inside j b) k ∷ []))
 
 -- what is yet to be judged stands as it stood
 pub swept-row : (ok : List Row → Row → Bool) (s₀ s : List ℕ) (i w : ℕ) → i < 256 → Swept ok s₀ s i w → rowAt s i ≡ rowAt s₀ i
@@ -71,7 +68,7 @@ swept-more ok s₀ s s′ i w kept h p j = go (ok (firstRows s w) (rowAt s i)) r
   where
     -- what is left of one row more
     left-more : left ok (firstRows s₀ (i + 1)) ≡ cond (ok (firstRows s w) (rowAt s i)) (firstRows s w ++ (rowAt s i ∷ [])) (firstRows s w)
-    left-more = ap (left ok) (rows-more s₀ i) ∙ left-last ok (firstRows s₀ i) (rowAt s₀ i) ∙ (λ k. keep ok (sym (p .rows) k) (sym (swept-row ok s₀ s i w h p) k))
+    left-more = ap (left ok) (ap (firstRows s₀) (add-one i) ∙ rows-more s₀ i) ∙ left-last ok (firstRows s₀ i) (rowAt s₀ i) ∙ (λ k. keep ok (sym (p .rows) k) (sym (swept-row ok s₀ s i w h p) k))
 
     stays : ok (firstRows s w) (rowAt s i) ≡ true → Moved s s′ (rowPlace i) (rowPlace w) 3 × (kept ≡ w + 1) → Swept ok s₀ s′ (i + 1) kept
     stays e m =

@@ -7,7 +7,7 @@ use native.Mathlib.Omega.{arith}
 use lib.Dec.{T, leb, lt→ltb, le→leb}
 use lib.ListN.{length}
 use borrow.Author.Tests.{le-ltb, lt-leb}
-use Rattle.model.specs.Lists.{firstPlace}
+use Rattle.model.specs.Lists.{firstPlace, every}
 use Rattle.model.specs.Records.{withRows, worldOf}
 use Rattle.model.specs.Layout.{policyOf, decode, encode, rowCount, ruleFrom}
 use Rattle.model.specs.Conditions.{active, satisfied}
@@ -16,7 +16,7 @@ use Rattle.model.specs.Calls.{activate, isUser, isRole, someRuleSatisfied, lowe
 use Rattle.model.specs.Words.{Sound, FirstApplies, none, here, later}
 use Rattle.model.specs.declared.Answer.{Answer}
 use Rattle.model.specs.declared.Rule.{Rule}
-use Rattle.model.proofs.Tests.{of-true, of-false}
+use Rattle.model.proofs.Tests.{of-true, of-false, found-any, not-found}
 use Rattle.table.specs.Entries.{worldAt, without-rights}
 use Rattle.table.proofs.Entries.{length-entries}
 use Rattle.table.proofs.Worlds.{satisfied-same}
@@ -24,7 +24,6 @@ use Rattle.index.specs.Marked.{block, satisfiedBy}
 use Rattle.index.specs.Indexed.{Own}
 use Rattle.index.proofs.Owning.{satisfied-own}
 use Rattle.inner.specs.Lent.{lent, Answers}
-use Rattle.inner.proofs.First.{found-any, not-found}
 use Rattle.inner.proofs.Codes.{own-refuses, own-accepts, out-of-range, in-range, found, row-length}
 
 -- the lowest rule by the user's own marks is the lowest that is satisfied
@@ -49,7 +48,7 @@ module _ (rules kinds rights s : List ℕ) (h : Sound (lent rules kinds rights) 
   no-role r a l = refused r 3 (omega arith) a (here (out-of-range (isUser u ∷ isRole q ∷ []) 1 (le-ltb q 256 l)))
 
   module _ (a : u < 4096) (b : q < 256) where
-    range : T (not (not (Rattle.model.specs.Lists.every (isUser u ∷ isRole q ∷ []))))
+    range : T (not (not (every (isUser u ∷ isRole q ∷ []))))
     range = in-range (isUser u ∷ isRole q ∷ []) (lt→ltb u 4096 a, (lt→ltb q 256 b, tt))
 
     pub is-held : (r : Answer) → (r .code ≡ 4) × (r .second ≡ 0) → active (decode s .rows) u q ≡ true → Answers (lent rules kinds rights) s (activate u q) r s

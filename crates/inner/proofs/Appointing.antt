@@ -15,10 +15,9 @@ use Rattle.model.specs.Sound.{sameCertificate}
 use Rattle.model.specs.Calls.{appoint, isUser, hasRow, stands, appointOn, courseOf}
 use Rattle.model.specs.Words.{Sound, none, here, later}
 use Rattle.model.specs.declared.Answer.{Answer}
-use Rattle.model.proofs.Tests.{of-true, of-false}
+use Rattle.model.proofs.Tests.{of-true, of-false, found-any, not-found}
 use Rattle.table.specs.Entries.{without-rights}
 use Rattle.inner.specs.Lent.{lent, Answers}
-use Rattle.inner.proofs.First.{found-any, not-found}
 use Rattle.inner.proofs.Codes.{own-refuses, own-accepts, in-range, found, certificate-length, some-kind}
 
 module _ (rules kinds rights s : List ℕ) (h : Sound (lent rules kinds rights) s) (b a k : ℕ) where

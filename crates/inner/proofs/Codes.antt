@@ -19,10 +19,9 @@ use Rattle.model.specs.Words.{Sound, FirstApplies, later}
 use Rattle.model.specs.declared.Answer.{Answer}
 use Rattle.model.proofs.Numbers.{sound-formed}
 use Rattle.table.specs.Entries.{firstRows, Sized}
-use Rattle.table.proofs.Entries.{length-entries}
+use Rattle.table.proofs.Entries.{length-entries, sized}
 use Rattle.index.specs.Indexed.{InRange}
 use Rattle.sound.proofs.Ranges.{sound-in-range}
-use Rattle.fall.proofs.Form.{formed, sized}
 use Rattle.inner.specs.Lent.{lent, AnswersWith}
 use Rattle.model.proofs.Tests.{is-true, of-true, of-false, not-not-of, Each, each, of-each}
 use Rattle.model.proofs.Refusals.{only-first, answer-code, refused-unchanged, accepted-done}
@@ -76,7 +75,7 @@ pub sound-form : (t : Tables) (s : List ℕ) → Sound t s → wellFormed s ≡ 
 sound-form t s h = is-true (wellFormed s) (sound-formed (policyOf t) s (h .state))
 
 pub sound-sized : (t : Tables) (s : List ℕ) → Sound t s → Sized s
-sound-sized t s h = sized s (formed s (sound-form t s h))
+sound-sized t s h = sized s (sound-form t s h)
 
 pub row-length : (s : List ℕ) → length (decode s .rows) ≡ rowCount s
 unfolding decode

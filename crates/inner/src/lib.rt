@@ -71,7 +71,7 @@ pub fn fresh(state: &mut [u16]) -> Answer
     ensures { λ r. ⌜ Answers (lent [] [] []) (now (state .entry)) freshCall r (now (state .exit)) ⌝ }
 {
     fall::zero(state, 0, STATE_SIZE);
-    refused(0)
+    Answer { code: 0, second: 0 }
 }
 
 // The marks of the user alone are made, once: they say whether he is active in the role, and which conditions hold for him.
@@ -153,5 +153,5 @@ pub fn appoint(
         return refused(6);
     }
     change::append_certificate(state, certificate);
-    refused(0)
+    Answer { code: 0, second: 0 }
 }

@@ -43,11 +43,11 @@ from-place l k zero e = let z : k ≡ length l = omega arith in ap (λ (i : ℕ)
 from-place l k (suc n) e = drop-cons l k 0 (omega arith) ∙ ap (λ (r : List ℕ). getD l k 0 ∷ r) (from-place l (suc k) n (omega arith))
 
 module _ (l : Line) (ten : length (l .numbers) ≡ 10) where
-  pub rule-row : (count : ℕ) → count ≡ l .count - 2 → number (l .numbers) 0 ∷ count ∷ number (l .numbers) 1 ∷ from (l .numbers) 2 8 ≡ ruleRow l
-  rule-row count e = λ i. number (l .numbers) 0 ∷ e i ∷ number (l .numbers) 1 ∷ sym (from-place (l .numbers) 2 8 (omega (arith, ten))) i
+  pub rule-row : number (l .numbers) 0 ∷ (l .count - 2) ∷ number (l .numbers) 1 ∷ from (l .numbers) 2 8 ≡ ruleRow l
+  rule-row = λ i. number (l .numbers) 0 ∷ (l .count - 2) ∷ number (l .numbers) 1 ∷ sym (from-place (l .numbers) 2 8 (omega (arith, ten))) i
 
-  pub kind-row : (count : ℕ) → count ≡ l .count - 2 → number (l .numbers) 0 ∷ number (l .numbers) 1 ∷ count ∷ from (l .numbers) 2 4 ≡ kindRow l
-  kind-row count e = λ i. number (l .numbers) 0 ∷ number (l .numbers) 1 ∷ e i ∷ take 4 (sym (from-place (l .numbers) 2 8 (omega (arith, ten))) i)
+  pub kind-row : number (l .numbers) 0 ∷ number (l .numbers) 1 ∷ (l .count - 2) ∷ from (l .numbers) 2 4 ≡ kindRow l
+  kind-row = λ i. number (l .numbers) 0 ∷ number (l .numbers) 1 ∷ (l .count - 2) ∷ take 4 (sym (from-place (l .numbers) 2 8 (omega (arith, ten))) i)
 
   pub right-row : from (l .numbers) 0 2 ≡ rightRow l
   right-row = ap (take 2) (sym (from-place (l .numbers) 0 10 (omega (arith, ten))))

@@ -19,7 +19,7 @@ use Rattle.model.specs.Calls.{answer}
 use Rattle.model.proofs.Tests.{or-later, lt-or-ge}
 use Rattle.program.specs.Vocabulary.{numbered}
 use Rattle.program.specs.Lines.{lineOf}
-use Rattle.program.specs.Program.{Machine, isPolicy, isFull, badWays, isBad, afterBad, afterPolicy, afterEvent, step, steps, callOf, withRow, badRecord, start}
+use Rattle.program.specs.Program.{Machine, isPolicy, isFull, badWays, isBad, afterBad, afterPolicy, afterEvent, step, steps, lineCall, withRow, badRecord, start}
 use Rattle.program.specs.declared.Line.{Line}
 use Rattle.program.proofs.Counted.{counted}
 use Rattle.reader.specs.Reading.{recordAt, lineAt, nextAt}
@@ -45,7 +45,7 @@ module _ (most width : ℕ) (table : List ℕ) (n : ℕ) (wide : 0 < width) (siz
 
 still : (m : Machine) (l : Line) → m .stopped ≡ true → step m l ≡ m
 unfolding step
-still m l e = ap (λ (b : Bool). cond b m (cond (isBad m l) (afterBad m) (cond (isPolicy l) (afterPolicy m l) (afterEvent m (answer (m .tables) (m .state) [] (callOf l)))))) e
+still m l e = ap (λ (b : Bool). cond b m (cond (isBad m l) (afterBad m) (cond (isPolicy l) (afterPolicy m l) (afterEvent m (answer (m .tables) (m .state) [] (lineCall l)))))) e
 
 pub stopped-stays : (m : Machine) (ls : List Line) → m .stopped ≡ true → steps m ls ≡ m
 stopped-stays m [] e = refl
@@ -85,16 +85,16 @@ unknown-bad w a b c came e = ap (λ (n : ℕ). some n a b c came) e
 pub bad-written : (m : Machine) (l : Line) (ls : List Line) → m .stopped ≡ false → isBad m l ≡ true → steps m (l ∷ ls) .written ≡ m .written ++ badRecord (suc (m .taken))
 unfolding step afterBad
 bad-written m l ls s b =
-    ap (λ (x : Machine). steps x ls .written) ((λ i. cond (s i) m (cond (b i) (afterBad m) (cond (isPolicy l) (afterPolicy m l) (afterEvent m (answer (m .tables) (m .state) [] (callOf l)))))))
+    ap (λ (x : Machine). steps x ls .written) ((λ i. cond (s i) m (cond (b i) (afterBad m) (cond (isPolicy l) (afterPolicy m l) (afterEvent m (answer (m .tables) (m .state) [] (lineCall l)))))))
     ∙ ap (λ (x : Machine). x .written) (stopped-stays (afterBad m) ls refl)
 
-pub event-taken : (m : Machine) (l : Line) → m .stopped ≡ false → isBad m l ≡ false → 3 ≤ l .word → step m l ≡ afterEvent m (answer (m .tables) (m .state) [] (callOf l))
+pub event-taken : (m : Machine) (l : Line) → m .stopped ≡ false → isBad m l ≡ false → 3 ≤ l .word → step m l ≡ afterEvent m (answer (m .tables) (m .state) [] (lineCall l))
 unfolding step
-event-taken m l s b h = λ i. cond (s i) m (cond (b i) (afterBad m) (cond (le-ltb (l .word) 3 h i) (afterPolicy m l) (afterEvent m (answer (m .tables) (m .state) [] (callOf l)))))
+event-taken m l s b h = λ i. cond (s i) m (cond (b i) (afterBad m) (cond (le-ltb (l .word) 3 h i) (afterPolicy m l) (afterEvent m (answer (m .tables) (m .state) [] (lineCall l)))))
 
 policy-taken : (m : Machine) (l : Line) → m .stopped ≡ false → isBad m l ≡ false → l .word < 3 → step m l ≡ afterPolicy m l
 unfolding step
-policy-taken m l s b h = λ i. cond (s i) m (cond (b i) (afterBad m) (cond (lt-ltb (l .word) 3 h i) (afterPolicy m l) (afterEvent m (answer (m .tables) (m .state) [] (callOf l)))))
+policy-taken m l s b h = λ i. cond (s i) m (cond (b i) (afterBad m) (cond (lt-ltb (l .word) 3 h i) (afterPolicy m l) (afterEvent m (answer (m .tables) (m .state) [] (lineCall l)))))
 
 -- ── loading ──
 

@@ -6,7 +6,7 @@ ghost use Prim.Native.Nat.{_+_, _*_, _<_, _≤_};
 ghost use lib.ListN.{length, take};
 ghost use mathlib.Core.Bool.{true};
 ghost use Rattle.model.specs.Limits.{mostRules, mostKinds, mostRights};
-ghost use Rattle.program.specs.Program.{withRow};
+ghost use Rattle.program.specs.Program.{ruleRow, kindRow, rightRow, withRow};
 ghost use Rattle.load.specs.Rows.{tablesOf, hasRoom, Loads};
 use model::KIND_WIDTH;
 use model::RIGHT_WIDTH;
@@ -55,7 +55,46 @@ fn has_room(counts: Counts, line: Line) -> bool
     false
 }
 
-// One row more. The record has target and m, or appointer role and mode; n and s are how many numbers follow these.
+// The line as a row of its table, in the first numbers. The record has target and m, or appointer role and mode; n and s are how many
+// numbers follow these.
+fn rule_row(line: Line) -> [u16; 11]
+    requires { ⌜ 2 ≤ line .count ⌝ }
+    ensures { λ r. ⌜ take 11 r ≡ ruleRow line ⌝ }
+{
+    let n = line.numbers;
+    let count = line.count - 2;
+    [
+        n[0],
+        count,
+        n[1],
+        n[2],
+        n[3],
+        n[4],
+        n[5],
+        n[6],
+        n[7],
+        n[8],
+        n[9],
+    ]
+}
+
+fn kind_row(line: Line) -> [u16; 11]
+    requires { ⌜ 2 ≤ line .count ⌝ }
+    ensures { λ r. ⌜ take 7 r ≡ kindRow line ⌝ }
+{
+    let n = line.numbers;
+    let count = line.count - 2;
+    [n[0], n[1], count, n[2], n[3], n[4], n[5], 0, 0, 0, 0]
+}
+
+fn right_row(line: Line) -> [u16; 11]
+    ensures { λ r. ⌜ take 2 r ≡ rightRow line ⌝ }
+{
+    let n = line.numbers;
+    [n[0], n[1], 0, 0, 0, 0, 0, 0, 0, 0, 0]
+}
+
+// One row more.
 fn take_row(
     rules: &mut [u16],
     kinds: &mut [u16],
@@ -67,56 +106,26 @@ fn take_row(
     ensures rows { λ r. ⌜ tablesOf (now (rules .exit)) (now (kinds .exit)) (now (rights .exit)) r ≡ withRow (tablesOf (now (rules .entry)) (now (kinds .entry)) (now (rights .entry)) counts) line ⌝ }
     ensures room { λ r. ⌜ (r .rules ≤ mostRules) × (r .kinds ≤ mostKinds) × (r .rights ≤ mostRights) ⌝ }
 {
-    let word = line.word;
-    let n = line.numbers;
-    let count = line.count - 2;
     let a = counts.rules;
     let b = counts.kinds;
     let c = counts.rights;
-    if word == RULE {
-        append(
-            rules,
-            a * RULE_WIDTH,
-            [
-                n[0],
-                count,
-                n[1],
-                n[2],
-                n[3],
-                n[4],
-                n[5],
-                n[6],
-                n[7],
-                n[8],
-                n[9],
-            ],
-            RULE_WIDTH,
-        );
+    if line.word == RULE {
+        append(rules, a * RULE_WIDTH, rule_row(line), RULE_WIDTH);
         return Counts {
             rules: a + 1,
             kinds: b,
             rights: c,
         };
     }
-    if word == KIND {
-        append(
-            kinds,
-            b * KIND_WIDTH,
-            [n[0], n[1], count, n[2], n[3], n[4], n[5], 0, 0, 0, 0],
-            KIND_WIDTH,
-        );
+    if line.word == KIND {
+        append(kinds, b * KIND_WIDTH, kind_row(line), KIND_WIDTH);
         return Counts {
             rules: a,
             kinds: b + 1,
             rights: c,
         };
     }
-    append(
-        rights,
-        c * RIGHT_WIDTH,
-        [n[0], n[1], 0, 0, 0, 0, 0, 0, 0, 0, 0],
-        RIGHT_WIDTH,
-    );
+    append(rights, c * RIGHT_WIDTH, right_row(line), RIGHT_WIDTH);
     Counts {
         rules: a,
         kinds: b,

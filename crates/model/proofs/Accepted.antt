@@ -1,5 +1,5 @@
 -- What each accepted call leaves: a sound state, in which the active rows are the largest supported part of those held.
-use Prim.Native.Nat.{ℕ, _+_, _-_, _<_}
+use Prim.Native.Nat.{ℕ, _<_}
 use mathlib.Core.Path.{_≡_, refl, ap, _∙_, subst, subst⁻¹}
 use mathlib.Core.Bool.{not}
 use mathlib.Core.List.{List, [], _∷_, _++_, List·Memᴰ, Sublistᴰ·refl}
@@ -25,7 +25,7 @@ use Rattle.model.proofs.Sweep.{largest-whole, left-largest}
 use Rattle.model.proofs.Support.{active-grows, supported-grows, row-supported, Serves, support, ordered}
 use Rattle.model.proofs.Numbers.{sound-decode, sound-encode, decode-encode}
 use Rattle.model.proofs.Refusals.{Passed, accepted-done, accepted-passed}
-use Rattle.model.proofs.Kept.{sound-rows, row-added, granted-sound, certificate-added, fallen-sound, ByUser, users-gone, fact-fits}
+use Rattle.model.proofs.Kept.{certificates-fit, sound-rows, row-added, granted-sound, certificate-added, fallen-sound, ByUser, users-gone, fact-fits}
 
 -- ── a sound state supports its rows, and taking from it leaves the largest part ──
 
@@ -55,12 +55,8 @@ zeros-sound p = tt
 
 pub certificate-gone-fits : (t : State) (c : Certificate) → Fits t → Fits (withoutCertificate t c)
 certificate-gone-fits t c f =
-    record {
-      all-facts = f .all-facts;
-      bits = f .bits;
-      room-for-rows = f .room-for-rows;
-      room-for-certificates = omega (arith, part-length (without (sameCertificate c) (t .certificates)) (t .certificates) (without-part (sameCertificate c) (t .certificates)), f .room-for-certificates);
-    }
+    certificates-fit t (without (sameCertificate c) (t .certificates)) f
+    (omega (arith, part-length (without (sameCertificate c) (t .certificates)) (t .certificates) (without-part (sameCertificate c) (t .certificates)), f .room-for-certificates))
 
 pub certificate-gone-sound : (p : Policy) (t : State) (c : Certificate) → SoundState p t → SoundState p (withRows (withoutCertificate t c) (left (supported (worldOf p (withoutCertificate t c))) (t .rows)))
 certificate-gone-sound p t c h = fallen-sound p t (withoutCertificate t c) h (certificate-gone-fits t c (h .fits)) (without-part (sameCertificate c) (t .certificates)) (sound-rows p t h)

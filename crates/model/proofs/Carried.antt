@@ -4,7 +4,7 @@ use mathlib.Core.Path.{_≡_, refl, ap, subst, subst⁻¹}
 use mathlib.Core.Bool.{Bool, true, false, not, _&&_, _||_, cond}
 use mathlib.Core.Logic.{_↔_, _⊎_, inl, inr}
 use mathlib.Core.List.{List, [], _∷_, _++_, reverse, reverse-cons, reverse-append, reverse-reverse, append-nil, append-assoc, List·Memᴰ, List·Memᴰ·head, List·Memᴰ·tail, List·Memᴰ·cases-cons, List·Memᴰ·not-nil, Memᴰ·append-left, Memᴰ·append-right}
-use lib.Dec.{T, eqb}
+use lib.Dec.{T, eqb, T-not, not-T}
 use Rattle.model.specs.Lists.{any, allOverEarlier}
 use Rattle.model.specs.Records.{Policy, State, World, worldOf}
 use Rattle.model.specs.Conditions.{isRow, active, restsOn}
@@ -13,7 +13,7 @@ use Rattle.model.specs.Effective.{direct, Carries, directly, through, ca
 use Rattle.model.specs.Calls.{allowed}
 use Rattle.model.specs.declared.Row.{Row}
 use Rattle.model.specs.Words.{SoundState}
-use Rattle.model.proofs.Tests.{and-left, and-right, and-both, or-left, or-right, or-cases, any-of, of-any, decide, refute, not-of, is-true, is-false}
+use Rattle.model.proofs.Tests.{and-left, and-right, and-both, or-left, or-right, or-cases, any-of, of-any, decide, is-true, is-false}
 use Rattle.model.proofs.Support.{isRow-user, isRow-role, of-active, active-grows, rests-on-active, row-new, row-supported}
 use Rattle.model.proofs.Kept.{sound-rows}
 
@@ -56,7 +56,7 @@ module _ (p : Policy) (u x : ℕ) where
   not-newest r earlier st q a = is-false (isRow u q r) (go (decide (isRow u q r)))
     where
       go : T (isRow u q r) ⊎ T (not (isRow u q r)) → T (not (isRow u q r))
-      go (inl i) = absurd (refute (active earlier (r .user) (r .role)) (st .0 .0) (subst⁻¹ (λ (n : ℕ). T (active earlier n (r .role))) (isRow-user u q r i) (subst⁻¹ (λ (n : ℕ). T (active earlier u n)) (isRow-role u q r i) a)))
+      go (inl i) = absurd (T-not (active earlier (r .user) (r .role)) (st .0 .0) (subst⁻¹ (λ (n : ℕ). T (active earlier n (r .role))) (isRow-user u q r i) (subst⁻¹ (λ (n : ℕ). T (active earlier u n)) (isRow-role u q r i) a)))
       go (inr n) = n
 
   skip-newest : (r : Row) (earlier : List Row) (q : ℕ) → isRow u q r ≡ false → carries p u x (r ∷ earlier) q ≡ carries p u x earlier q
@@ -131,7 +131,7 @@ stacked-more w earlier (r ∷ rows) st t =
     here = and-left (rowSound w earlier r) (allOverEarlier (rowSound w) (earlier ++ (r ∷ [])) rows) t
 
     new : T (not (active (reverse earlier) (r .user) (r .role)))
-    new = not-of (active (reverse earlier) (r .user) (r .role)) (λ a. refute (active earlier (r .user) (r .role)) (row-new w earlier r here) (active-grows (reverse earlier) earlier (r .user) (r .role) (λ z m. member-reverse earlier z m) a))
+    new = not-T (active (reverse earlier) (r .user) (r .role)) (λ a. T-not (active earlier (r .user) (r .role)) (row-new w earlier r here) (active-grows (reverse earlier) earlier (r .user) (r .role) (λ z m. member-reverse earlier z m) a))
 
     rests : (q : ℕ) → List·Memᴰ q (restsOn (w .policy) r) → T (active (reverse earlier) (r .user) q)
     rests q k = active-grows earlier (reverse earlier) (r .user) q (λ z m. reverse-member earlier z m) (rests-on-active w earlier r (row-supported w earlier r here) q k)

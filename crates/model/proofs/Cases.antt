@@ -1,6 +1,6 @@
 -- The ten cases that "At the edges" marks P, as one table under one statement, which holds by computation; and five more cases, of what
 -- the outline allows or asks in a single sentence, as a second table. The wanted answers are worked out from the outline.
-use Prim.Native.Nat.{ℕ, zero, suc, _+_, _*_, _-_}
+use Prim.Native.Nat.{ℕ, zero, suc, _*_, _-_}
 use mathlib.Core.Path.{_≡_, refl}
 use mathlib.Core.Bool.{Bool, true, _&&_}
 use mathlib.Core.List.{List, [], _∷_, _++_}

@@ -5,7 +5,7 @@ use mathlib.Core.Bool.{Bool, true, false, not, _&&_, cond}
 use mathlib.Core.Logic.{_↔_}
 use mathlib.Core.List.{List, [], _∷_, _++_, List·Memᴰ}
 use native.Mathlib.Omega.{arith}
-use lib.Dec.{T, eqb, leb, eqb→eq, eqb-refl, lt→ltb, leb→le}
+use lib.Dec.{T, eqb, leb, eqb→eq, eqb-refl, lt→ltb, leb→le, T-not, not-T}
 use lib.ListN.{length}
 use Rattle.model.specs.Lists.{any, every}
 use Rattle.model.specs.Limits.{users, roles, privileges, mostRows}
@@ -18,7 +18,7 @@ use Rattle.model.specs.Outcome.{judgedFirst}
 use Rattle.model.specs.Calls.{activate, invoke, effective, isUser, isRole, isPrivilege, someRuleSatisfied, lowestRule, activateOn, invokeOn, effectiveOn, allowed, courseOf, answer}
 use Rattle.model.specs.declared.Row.{Row}
 use Rattle.model.specs.Words.{Sound, SatisfiedNow, Granted, CarriedNow}
-use Rattle.model.proofs.Tests.{not-not, not-not-of, not-of, of-each, any-of, of-any, at-place, and-left, and-right, and-both, refute}
+use Rattle.model.proofs.Tests.{not-not, not-not-of, of-each, any-of, of-any, at-place, and-left, and-right, and-both}
 use Rattle.model.proofs.Numbers.{sound-decode}
 use Rattle.model.proofs.Refusals.{Passed, accepted-done, accepted-passed, passed-accepted}
 use Rattle.model.proofs.Accepted.{lowest-rule, effect-decoded}
@@ -41,7 +41,7 @@ module _ (t : Tables) (s list : List ℕ) (u q : ℕ) where
               (
                 not-not-of (someRuleSatisfied (policyOf t) (decode s) u q) (of-any (satisfied (worldOf (policyOf t) (decode s)) (decode s .rows) u q) (ruleNumbered (policyOf t) (rule .0)) (policyOf t .rules) (at-place (policyOf t .rules) (rule .0) _ (rule .1 .exists)) (rule .1 .holds-now)),
                 (
-                  not-of (leb mostRows (length (decode s .rows))) (λ l. full (leb→le mostRows (length (decode s .rows)) l)),
+                  not-T (leb mostRows (length (decode s .rows))) (λ l. full (leb→le mostRows (length (decode s .rows)) l)),
                   tt,
                 ),
               ),
@@ -61,7 +61,7 @@ module _ (t : Tables) (s list : List ℕ) (u q : ℕ) where
       let same : answer t s list (activate u q) .second ≡ lowestRule (policyOf t) (decode s) u q = accepted-done t s list (activate u q) e .second-told in
       record {
         satisfied-now = subst⁻¹ (λ (n : ℕ). SatisfiedNow t s u q n) same (record { exists = l .0; holds-now = l .1 });
-        none-lower = λ i h v. refute (satisfied (worldOf (policyOf t) (decode s)) (decode s .rows) u q (ruleNumbered (policyOf t) i)) (l .2 i (subst (λ (n : ℕ). i < n) same h)) (v .holds-now);
+        none-lower = λ i h v. T-not (satisfied (worldOf (policyOf t) (decode s)) (decode s .rows) u q (ruleNumbered (policyOf t) i)) (l .2 i (subst (λ (n : ℕ). i < n) same h)) (v .holds-now);
         one-row-more = ap (λ (x : State). x .rows) (effect-decoded t s list (activate u q) e) ∙ ap (λ (n : ℕ). decode s .rows ++ (record { user = u; role = q; rule = n } ∷ [])) (sym same);
       }
 

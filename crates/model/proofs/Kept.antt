@@ -1,11 +1,11 @@
 -- What the calls do to a sound state leaves a sound state. One law for each way in which a state changes.
-use Prim.Native.Nat.{ℕ, zero, suc, _+_, _-_, _≤_, _<_}
+use Prim.Native.Nat.{ℕ, zero, suc, _+_, _≤_, _<_}
 use mathlib.Core.Path.{_≡_, _∙_}
 use mathlib.Core.Bool.{Bool, not}
 use mathlib.Core.Logic.{_⊎_, inl, inr}
 use mathlib.Core.List.{List, [], _∷_, _++_, List·Memᴰ, List·Memᴰ·head, List·Memᴰ·tail, List·Memᴰ·cases-cons, List·Memᴰ·not-nil, Memᴰ·append-left, Sublistᴰ, Sublistᴰ·slnil}
 use native.Mathlib.Omega.{arith}
-use lib.Dec.{T, eqb, ltb, lt→ltb, leb→le}
+use lib.Dec.{T, eqb, ltb, lt→ltb, leb→le, T-not, not-T}
 use lib.ListN.{length, take, set, length-append, length-set}
 use Rattle.model.specs.Lists.{any, all, allOverEarlier, without, isBit}
 use Rattle.model.specs.Limits.{users, roles, facts, mostRows, mostCertificates}
@@ -18,7 +18,7 @@ use Rattle.model.specs.declared.Rule.{Rule}
 use Rattle.model.specs.declared.Row.{Row}
 use Rattle.model.specs.declared.Certificate.{Certificate}
 use Rattle.model.specs.Words.{Fits, SoundState}
-use Rattle.model.proofs.Tests.{and-left, and-right, and-both, refute, not-of, any-map, all-of, of-all, each, of-each, at-place, earlier-last, earlier-map}
+use Rattle.model.proofs.Tests.{and-left, and-right, and-both, any-map, all-of, of-all, each, of-each, at-place, earlier-last, earlier-map}
 use Rattle.model.proofs.Parts.{part-member, part-length, without-part, without-keeps, earlier-part, earlier-without}
 use Rattle.model.proofs.Sweep.{left-part, left-earlier}
 use Rattle.model.proofs.Support.{active-of, of-active, active-grows, isRow-user, supported-grows, row-user, row-role, row-new, row-rule, row-target, row-supported, row-sound, Less, less-supports}
@@ -37,6 +37,14 @@ pub sound-state : (p : Policy) (t : State) → Fits t → T (allOverEarlier (cer
 unfolding soundRecords
 sound-state p t f c r = record { fits = f; records = and-both (allOverEarlier (certificateSound p) [] (t .certificates)) (allOverEarlier (rowSound (worldOf p t)) [] (t .rows)) c r }
 
+-- ── other rows, or other certificates, where there is room for them ──
+
+pub rows-fit : (t : State) (rows : List Row) → Fits t → length rows ≤ mostRows → Fits (withRows t rows)
+rows-fit t rows f room = record { all-facts = f .all-facts; bits = f .bits; room-for-rows = room; room-for-certificates = f .room-for-certificates }
+
+pub certificates-fit : (t : State) (certificates : List Certificate) → Fits t → length certificates ≤ mostCertificates → Fits (withCertificates t certificates)
+certificates-fit t certificates f room = record { all-facts = f .all-facts; bits = f .bits; room-for-rows = f .room-for-rows; room-for-certificates = room }
+
 -- ── a row is added ──
 
 length-last : {A : Type 0} (xs : List A) (x : A) → length (xs ++ (x ∷ [])) ≡ length xs + 1
@@ -45,12 +53,7 @@ length-last xs x = length-append xs (x ∷ [])
 pub row-added : (p : Policy) (t : State) (r : Row) → SoundState p t → length (t .rows) < mostRows → T (rowSound (worldOf p t) (t .rows) r) → SoundState p (withRows t (t .rows ++ (r ∷ [])))
 row-added p t r h room s =
     sound-state p (withRows t (t .rows ++ (r ∷ [])))
-    (record {
-      all-facts = h .fits .all-facts;
-      bits = h .fits .bits;
-      room-for-rows = omega (arith, length-last (t .rows) r);
-      room-for-certificates = h .fits .room-for-certificates;
-    })
+    (rows-fit t (t .rows ++ (r ∷ [])) (h .fits) (omega (arith, length-last (t .rows) r)))
     (sound-certificates p t h)
     (earlier-last (rowSound (worldOf p t)) (t .rows) r (sound-rows p t h) s)
 
@@ -103,12 +106,7 @@ pub certificate-added : (p : Policy) (t : State) (c : Certificate) → SoundStat
     → SoundState p (withCertificates t (t .certificates ++ (c ∷ [])))
 certificate-added p t c h room s =
     sound-state p (withCertificates t (t .certificates ++ (c ∷ [])))
-    (record {
-      all-facts = h .fits .all-facts;
-      bits = h .fits .bits;
-      room-for-rows = h .fits .room-for-rows;
-      room-for-certificates = omega (arith, length-last (t .certificates) c);
-    })
+    (certificates-fit t (t .certificates ++ (c ∷ [])) (h .fits) (omega (arith, length-last (t .certificates) c)))
     (earlier-last (certificateSound p) (t .certificates) c (sound-certificates p t h) s)
     (earlier-map (rowSound (worldOf p t)) (rowSound (worldOf p (withCertificates t (t .certificates ++ (c ∷ [])))))
     (λ earlier r v. row-stays p t (withCertificates t (t .certificates ++ (c ∷ []))) (record { certificates = λ x m. Memᴰ·append-left (c ∷ []) m; facts = λ f v. v }) earlier r v) [] (t .rows) (sound-rows p t h))
@@ -121,7 +119,7 @@ unfolding certificateClauses
 certificate-fewer p few many c d t =
     let e = each (certificateClauses p many c) t in
     of-each (certificateClauses p few c)
-    (e .0, (e .1 .0, (e .1 .1 .0, (not-of (any (sameCertificate c) few) (λ h. refute (any (sameCertificate c) many) (e .1 .1 .1 .0) (any-map (sameCertificate c) (sameCertificate c) few many (λ x m v. (part-member x few many d m, v)) h)), tt))))
+    (e .0, (e .1 .0, (e .1 .1 .0, (not-T (any (sameCertificate c) few) (λ h. T-not (any (sameCertificate c) many) (e .1 .1 .1 .0) (any-map (sameCertificate c) (sameCertificate c) few many (λ x m v. (part-member x few many d m, v)) h)), tt))))
 
 pub certificates-fewer : (p : Policy) (few many : List Certificate) → Sublistᴰ few many → T (allOverEarlier (certificateSound p) [] many) → T (allOverEarlier (certificateSound p) [] few)
 certificates-fewer p few many d t = earlier-part (certificateSound p) (certificate-fewer p) [] [] few many Sublistᴰ·slnil d t
@@ -131,12 +129,7 @@ pub fallen-sound : (p : Policy) (before after : State) → SoundState p before �
     → T (allOverEarlier (rowSound (worldOf p before)) [] (after .rows)) → SoundState p (withRows after (left (supported (worldOf p after)) (after .rows)))
 fallen-sound p before after h f d rows =
     sound-state p (withRows after rest)
-    (record {
-      all-facts = f .all-facts;
-      bits = f .bits;
-      room-for-rows = omega (arith, part-length rest (after .rows) (left-part (supported (worldOf p after)) (after .rows)), f .room-for-rows);
-      room-for-certificates = f .room-for-certificates;
-    })
+    (rows-fit after rest f (omega (arith, part-length rest (after .rows) (left-part (supported (worldOf p after)) (after .rows)), f .room-for-rows)))
     (certificates-fewer p (after .certificates) (before .certificates) d (sound-certificates p before h))
     (left-earlier (supported (worldOf p after)) (rowSound (worldOf p before)) (rowSound (worldOf p after)) renews (after .rows) rows)
   where
@@ -149,7 +142,7 @@ fallen-sound p before after h f d rows =
     renews : (kept earlier : List Row) (r : Row) → Sublistᴰ kept earlier → T (rowSound w earlier r) → T (supported (worldOf p after) kept r) → T (rowSound (worldOf p after) kept r)
     renews kept earlier r k t s =
         row-sound (worldOf p after) kept r (row-user w earlier r t) (row-role w earlier r t)
-        (not-of (active kept (r .user) (r .role)) (λ a. refute (active earlier (r .user) (r .role)) (row-new w earlier r t) (active-grows kept earlier (r .user) (r .role) (λ x m. part-member x kept earlier k m) a)))
+        (not-T (active kept (r .user) (r .role)) (λ a. T-not (active earlier (r .user) (r .role)) (row-new w earlier r t) (active-grows kept earlier (r .user) (r .role) (λ x m. part-member x kept earlier k m) a)))
         (row-rule w earlier r t) (row-target w earlier r t) s
 
 -- ── rows of some users go ──
@@ -168,24 +161,19 @@ rows-without-user p t gone by h = earlier-without (rowSound w) gone stays [] (t 
     still earlier r n q a =
         let s : (s : Row) × List·Memᴰ s earlier × T (isRow (r .user) q s) = active-of earlier (r .user) q a in
         of-active (without gone earlier) (r .user) q (s .0)
-        (without-keeps gone earlier (s .0) (s .1) (not-of (gone (s .0)) (λ g. refute (gone r) n (by .alike (s .0) r (isRow-user (r .user) q (s .0) (s .2)) g)))) (s .2)
+        (without-keeps gone earlier (s .0) (s .1) (not-T (gone (s .0)) (λ g. T-not (gone r) n (by .alike (s .0) r (isRow-user (r .user) q (s .0) (s .2)) g)))) (s .2)
 
     stays : (earlier : List Row) (r : Row) → T (not (gone r)) → T (rowSound w earlier r) → T (rowSound w (without gone earlier) r)
     stays earlier r n t =
         row-sound w (without gone earlier) r (row-user w earlier r t) (row-role w earlier r t)
-        (not-of (active (without gone earlier) (r .user) (r .role)) (λ a. refute (active earlier (r .user) (r .role)) (row-new w earlier r t) (active-grows (without gone earlier) earlier (r .user) (r .role) (λ x m. part-member x _ _ (without-part gone earlier) m) a)))
+        (not-T (active (without gone earlier) (r .user) (r .role)) (λ a. T-not (active earlier (r .user) (r .role)) (row-new w earlier r t) (active-grows (without gone earlier) earlier (r .user) (r .role) (λ x m. part-member x _ _ (without-part gone earlier) m) a)))
         (row-rule w earlier r t) (row-target w earlier r t)
         (supported-grows w earlier (without gone earlier) r (λ q m a. still earlier r n q a) (row-supported w earlier r t))
 
 pub users-gone : (p : Policy) (t : State) (gone : Row → Bool) → ByUser gone → SoundState p t → SoundState p (withRows t (without gone (t .rows)))
 users-gone p t gone by h =
     sound-state p (withRows t (without gone (t .rows)))
-    (record {
-      all-facts = h .fits .all-facts;
-      bits = h .fits .bits;
-      room-for-rows = omega (arith, part-length (without gone (t .rows)) (t .rows) (without-part gone (t .rows)), h .fits .room-for-rows);
-      room-for-certificates = h .fits .room-for-certificates;
-    })
+    (rows-fit t (without gone (t .rows)) (h .fits) (omega (arith, part-length (without gone (t .rows)) (t .rows) (without-part gone (t .rows)), h .fits .room-for-rows)))
     (sound-certificates p t h)
     (rows-without-user p t gone by (sound-rows p t h))
 

@@ -7,7 +7,7 @@ use native.Mathlib.Omega.{arith}
 use native.Mathlib.Nat.{suc-mul, zero-mul, add-comm}
 use native.Mathlib.Numerals.{add-one}
 use lib.Dec.{T, eqb, leb, eqb→eq, leb→le, le→leb}
-use lib.ListN.{length, getD, take, drop, replicate, length-append, length-drop, length-replicate, take-append-drop}
+use lib.ListN.{length, getD, take, drop, replicate, length-append, length-drop, length-replicate, take-append-drop, length-map}
 use lib.Seq.{take-at, drop-at, getD-at, split-at, drop-cons, drop-drop, take-add, take-all, length-take-le}
 use Rattle.model.specs.Lists.{all, joined, isZero, isBit, filledTo, rowsOf}
 use Rattle.model.specs.Limits.{facts, mostRows, rowWidth, mostCertificates, certificateWidth, stateSize}
@@ -24,10 +24,6 @@ use Rattle.model.proofs.Tests.{and-left, and-right, and-both, each, of-
 pub length-rows : (w n : ℕ) (l : List ℕ) → length (rowsOf w n l) ≡ n
 length-rows w zero l = refl
 length-rows w (suc n) l = ap suc (length-rows w n (drop w l))
-
-pub length-map : {A B : Type 0} (f : A → B) (xs : List A) → length (map f xs) ≡ length xs
-length-map f [] = refl
-length-map f (x ∷ xs) = ap suc (length-map f xs)
 
 module _ {A : Type 0} (w : ℕ) (to : List ℕ → A) (from : A → List ℕ) where
   pub length-joined : ((x : A) → length (from x) ≡ w) → (xs : List A) → length (joined from xs) ≡ length xs * w
@@ -238,8 +234,8 @@ module _ (s : List ℕ) (t : T (wellFormed s)) where
       record {
         all-facts = length-take-le facts s (omega (arith, formed-size));
         bits = each (formClauses s) t .1 .0;
-        room-for-rows = omega (arith, length-map rowFrom (rowsOf rowWidth (rowCount s) (rowNumbers s)), length-rows rowWidth (rowCount s) (rowNumbers s), formed-rows);
-        room-for-certificates = omega (arith, length-map certificateFrom (rowsOf certificateWidth (certificateCount s) (certificateNumbers s)), length-rows certificateWidth (certificateCount s) (certificateNumbers s), formed-certificates);
+        room-for-rows = omega (arith, length-map (rowsOf rowWidth (rowCount s) (rowNumbers s)) rowFrom, length-rows rowWidth (rowCount s) (rowNumbers s), formed-rows);
+        room-for-certificates = omega (arith, length-map (rowsOf certificateWidth (certificateCount s) (certificateNumbers s)) certificateFrom, length-rows certificateWidth (certificateCount s) (certificateNumbers s), formed-certificates);
       }
 
   -- decoding loses nothing of what is well formed
@@ -251,10 +247,10 @@ module _ (s : List ℕ) (t : T (wellFormed s)) where
       ∙ sym (in-parts s facts (mostRows * rowWidth) (omega (arith, formed-size)))
     where
       rows-counted : length (map rowFrom (rowsOf rowWidth (rowCount s) (rowNumbers s))) ≡ rowCount s
-      rows-counted = length-map rowFrom (rowsOf rowWidth (rowCount s) (rowNumbers s)) ∙ length-rows rowWidth (rowCount s) (rowNumbers s)
+      rows-counted = length-map (rowsOf rowWidth (rowCount s) (rowNumbers s)) rowFrom ∙ length-rows rowWidth (rowCount s) (rowNumbers s)
 
       certificates-counted : length (map certificateFrom (rowsOf certificateWidth (certificateCount s) (certificateNumbers s))) ≡ certificateCount s
-      certificates-counted = length-map certificateFrom (rowsOf certificateWidth (certificateCount s) (certificateNumbers s)) ∙ length-rows certificateWidth (certificateCount s) (certificateNumbers s)
+      certificates-counted = length-map (rowsOf certificateWidth (certificateCount s) (certificateNumbers s)) certificateFrom ∙ length-rows certificateWidth (certificateCount s) (certificateNumbers s)
 
       table-length : (at : ℕ) → at + 768 ≤ stateSize → length (take 768 (drop at s)) ≡ 768
       table-length at h = length-take-le 768 (drop at s) (simp length-drop (omega (arith, formed-size)))

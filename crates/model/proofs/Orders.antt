@@ -6,7 +6,7 @@ use mathlib.Core.Bool.{Bool, false, not, _||_, or-false}
 use mathlib.Core.Logic.{_≢_, _⊎_, inl, inr}
 use mathlib.Core.List.{List, [], _∷_, _++_, List·Memᴰ, List·Permᴰ, Sublistᴰ}
 use native.Mathlib.Omega.{arith}
-use lib.Dec.{T, eqb, ltb, eqb→eq, nltb→le}
+use lib.Dec.{T, eqb, ltb, eqb→eq, nltb→le, T-not, not-T}
 use lib.ListN.{set}
 use lib.Seq.{set-out}
 use Rattle.model.specs.Lists.{every, without, isBit}
@@ -22,7 +22,7 @@ use Rattle.model.specs.Withdrawals.{Withdrawal, factFalse, certificateGo
 use Rattle.model.specs.declared.Row.{Row}
 use Rattle.model.specs.declared.Certificate.{Certificate}
 use Rattle.model.specs.Words.{Sound, SoundState}
-use Rattle.model.proofs.Tests.{decide, refute, not-of, not-not-of, each, of-each, any-of, of-any, earlier-of, earlier-map}
+use Rattle.model.proofs.Tests.{decide, not-not-of, each, of-each, any-of, of-any, earlier-of, earlier-map}
 use Rattle.model.proofs.Parts.{without-none, without-same, part-member, part-front}
 use Rattle.model.proofs.Sweep.{left-whole, in-turn-or-at-once, less-keeps-more}
 use Rattle.model.proofs.Support.{less-supports, row-supported, row-user}
@@ -115,7 +115,7 @@ module _ (t : Tables) (s : List ℕ) (h : Sound t s) where
 
   certificate-refused : (c : Certificate) → answer t s [] (withdraw (c .appointee) (c .kind) (c .appointer)) .code ≢ 0 → T (not (stands (decode s) c))
   unfolding courseOf judgedFirst withdrawOn certificateClauses
-  certificate-refused c n = not-of (stands (decode s) c) refuse
+  certificate-refused c n = not-T (stands (decode s) c) refuse
     where
       range : List Bool
       range = isUser (c .appointee) ∷ hasRow (policyOf t) (c .kind) ∷ isUser (c .appointer) ∷ []
@@ -145,7 +145,7 @@ module _ (t : Tables) (s : List ℕ) (h : Sound t s) where
 
   user-refused : (u : ℕ) → answer t s [] (logout u) .code ≢ 0 → (r : Row) → List·Memᴰ r (decode s .rows) → T (not (ofUser u r))
   unfolding courseOf judgedFirst logoutOn
-  user-refused u n r m = not-of (ofUser u r) refuse
+  user-refused u n r m = not-T (ofUser u r) refuse
     where
       refuse : T (ofUser u r) → ⊥
       refuse v =
@@ -161,7 +161,7 @@ module _ (t : Tables) (s : List ℕ) (h : Sound t s) where
       ∙ still (policyOf t) (decode s) sound-now
   refused-takes-nothing (certificateGone c) n =
       certificate-taken (policyOf t) (decode s) c
-      ∙ ap (fallen (policyOf t)) (λ i. record { facts = decode s .facts; rows = decode s .rows; certificates = without-none (sameCertificate c) (decode s .certificates) (λ d m. not-of (sameCertificate c d) (λ v. refute (stands (decode s) c) (certificate-refused c n) (of-any (sameCertificate c) d (decode s .certificates) m v))) i })
+      ∙ ap (fallen (policyOf t)) (λ i. record { facts = decode s .facts; rows = decode s .rows; certificates = without-none (sameCertificate c) (decode s .certificates) (λ d m. not-T (sameCertificate c d) (λ v. T-not (stands (decode s) c) (certificate-refused c n) (of-any (sameCertificate c) d (decode s .certificates) m v))) i })
       ∙ still (policyOf t) (decode s) sound-now
   refused-takes-nothing (loggedOut u) n =
       user-taken (policyOf t) (decode s) u sound-now ∙ (λ i. record { facts = decode s .facts; rows = without-none (ofUser u) (decode s .rows) (user-refused u n) i; certificates = decode s .certificates })

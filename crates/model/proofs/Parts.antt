@@ -7,10 +7,10 @@ use mathlib.Core.List.{List, [], _∷_, _++_, append-nil, List·Memᴰ, List·Me
 use mathlib.Core.List.{Sublistᴰ, Sublistᴰ·slnil, Sublistᴰ·cons, Sublistᴰ·cons-cons, Sublistᴰ·refl, Sublistᴰ·nil-sublist, Sublistᴰ·eq-nil, Sublistᴰ·cases-cons, Sublistᴰ·trans, Sublistᴰ·append, Sublistᴰ·length-le, Sublistᴰ·eq-of-length}
 use mathlib.Core.Nat.{le-antisymm}
 use native.Mathlib.Omega.{arith}
-use lib.Dec.{T}
+use lib.Dec.{T, T-not}
 use lib.ListN.{length}
 use Rattle.model.specs.Lists.{allOverEarlier, without}
-use Rattle.model.proofs.Tests.{and-left, and-right, and-both, refute, decide, of-true, of-false}
+use Rattle.model.proofs.Tests.{and-left, and-right, and-both, decide, of-true, of-false}
 
 module _ {A : Type 0} where
   pub part-antisym : (xs ys : List A) → Sublistᴰ xs ys → Sublistᴰ ys xs → xs ≡ ys
@@ -68,7 +68,7 @@ module _ {A : Type 0} where
   without-keeps gone (r ∷ rs) x m n = go (gone r) refl (λ k. without-keeps gone rs x k n) (List·Memᴰ·cases-cons m)
     where
       go : (b : Bool) → gone r ≡ b → (List·Memᴰ x rs → List·Memᴰ x (without gone rs)) → (x ≡ r) ⊎ List·Memᴰ x rs → List·Memᴰ x (cond b (without gone rs) (r ∷ without gone rs))
-      go true e f (inl q) = absurd (refute (gone r) (subst (λ (z : A). T (not (gone z))) q n) (of-true (gone r) e))
+      go true e f (inl q) = absurd (T-not (gone r) (subst (λ (z : A). T (not (gone z))) q n) (of-true (gone r) e))
       go true e f (inr k) = f k
       go false e f (inl q) = List·Memᴰ·head q
       go false e f (inr k) = List·Memᴰ·tail (f k)
@@ -83,7 +83,7 @@ module _ {A : Type 0} where
       skip false u = Sublistᴰ·cons u
 
       take-it : (zs : List A) → xs ≡ y ∷ zs → Sublistᴰ zs (without gone ys) → (b : Bool) → gone y ≡ b → Sublistᴰ xs (cond b (without gone ys) (y ∷ without gone ys))
-      take-it zs e u true q = absurd (refute (gone y) (h y (subst⁻¹ (λ (l : List A). List·Memᴰ y l) e (List·Memᴰ·head refl))) (of-true (gone y) q))
+      take-it zs e u true q = absurd (T-not (gone y) (h y (subst⁻¹ (λ (l : List A). List·Memᴰ y l) e (List·Memᴰ·head refl))) (of-true (gone y) q))
       take-it zs e u false q = subst⁻¹ (λ (l : List A). Sublistᴰ l (y ∷ without gone ys)) e (Sublistᴰ·cons-cons refl u)
 
       go : ((zs : List A) → Sublistᴰ zs ys → ((x : A) → List·Memᴰ x zs → T (not (gone x))) → Sublistᴰ zs (without gone ys)) → Sublistᴰ xs ys ⊎ ((zs : List A) × (xs ≡ y ∷ zs) × Sublistᴰ zs ys) → Sublistᴰ xs (cond (gone y) (without gone ys) (y ∷ without gone ys))
@@ -119,8 +119,8 @@ module _ {A : Type 0} where
       both x o nf ng = go (decide (h x))
         where
           one : T (f x) ⊎ T (g x) → ⊥
-          one (inl t) = refute (f x) nf t
-          one (inr t) = refute (g x) ng t
+          one (inl t) = T-not (f x) nf t
+          one (inr t) = T-not (g x) ng t
 
           go : T (h x) ⊎ T (not (h x)) → T (not (h x))
           go (inl t) = absurd (one (o t))
@@ -130,7 +130,7 @@ module _ {A : Type 0} where
       away x k sub nh = go (decide (k x))
         where
           go : T (k x) ⊎ T (not (k x)) → T (not (k x))
-          go (inl t) = absurd (refute (h x) nh (sub x t))
+          go (inl t) = absurd (T-not (h x) nh (sub x t))
           go (inr t) = t
 
   -- nothing to take out

@@ -5,14 +5,14 @@ use mathlib.Core.Bool.{Bool, true, false, not, cond}
 use mathlib.Core.Logic.{_≢_, _⊎_, inl, inr}
 use mathlib.Core.List.{List, [], _∷_}
 use native.Mathlib.Omega.{arith}
-use lib.Dec.{T}
+use lib.Dec.{T, T-not}
 use Rattle.model.specs.Lists.{all, isZero}
 use Rattle.model.specs.Records.{Tables}
 use Rattle.model.specs.Layout.{encode}
 use Rattle.model.specs.Outcome.{Outcome, Refusal, firstCode, Effect, judgedFirst, decided, Keeps}
 use Rattle.model.specs.Calls.{Call, fresh, activate, appoint, revoke, withdraw, environment, logout, invoke, effective, chain, activateOn, appointOn, revokeOn, withdrawOn, environmentOn, logoutOn, invokeOn, effectiveOn, chainOn, freshOn, courseOf, answer}
 use Rattle.model.specs.Words.{FirstApplies, none, here, later, Unchanged}
-use Rattle.model.proofs.Tests.{and-left, and-right, of-true, of-false, refute}
+use Rattle.model.proofs.Tests.{and-left, and-right, of-true, of-false}
 
 -- ── any list of refusals ──
 
@@ -51,7 +51,7 @@ passed [] h e = tt
 passed (r ∷ rs) h e = go (λ q. passed rs (and-right (hasCode r) (all hasCode rs) h) q) (r .applies) e
   where
     go : (firstCode rs ≡ 0 → Passed rs) → (b : Bool) → cond b (r .code) (firstCode rs) ≡ 0 → T (not b) × Passed rs
-    go f true q = absurd (refute (isZero (r .code)) (and-left (hasCode r) (all hasCode rs) h) (subst⁻¹ (λ (n : ℕ). T (isZero n)) q tt))
+    go f true q = absurd (T-not (isZero (r .code)) (and-left (hasCode r) (all hasCode rs) h) (subst⁻¹ (λ (n : ℕ). T (isZero n)) q tt))
     go f false q = (tt, f q)
 
 pub none-applies : (rs : List Refusal) → Passed rs → firstCode rs ≡ 0

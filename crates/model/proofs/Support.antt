@@ -5,7 +5,7 @@ use mathlib.Core.Path.{_≡_, refl, subst, subst⁻¹}
 use mathlib.Core.Bool.{Bool, true, false, not, _&&_}
 use mathlib.Core.Logic.{_⊎_, inl, inr}
 use mathlib.Core.List.{List, [], _∷_, _++_, List·Memᴰ, List·Memᴰ·head, List·Memᴰ·tail, List·Memᴰ·cases-cons, List·Memᴰ·not-nil, List·Memᴰ·append-cases, List·Memᴰ·eq-of-singleton, Memᴰ·append-left, Memᴰ·append-right}
-use lib.Dec.{T, eqb, ltb, eqb→eq}
+use lib.Dec.{T, eqb, ltb, eqb→eq, T-not}
 use lib.ListN.{length, getD}
 use Rattle.model.specs.Lists.{all, allOverEarlier, joined}
 use Rattle.model.specs.Records.{Policy, State, World, worldOf}
@@ -14,7 +14,7 @@ use Rattle.model.specs.Sound.{rowClauses, rowSound}
 use Rattle.model.specs.Limits.{users, roles}
 use Rattle.model.specs.declared.Row.{Row}
 use Rattle.model.specs.declared.Certificate.{Certificate}
-use Rattle.model.proofs.Tests.{and-left, and-right, and-both, refute, any-of, of-any, any-map, all-of, of-all, each, of-each, earlier-of}
+use Rattle.model.proofs.Tests.{and-left, and-right, and-both, any-of, of-any, any-map, all-of, of-all, each, of-each, earlier-of}
 use Rattle.model.proofs.Parts.{part-front, part-member}
 use Rattle.model.proofs.Sweep.{Support, Ordered, Stricter}
 
@@ -186,7 +186,7 @@ ordered w earlier (r ∷ rs) t = (first, ordered w (earlier ++ (r ∷ [])) rs (a
     first s m v =
         let h : (before : List Row) × (after : List Row) × (r ∷ rs ≡ before ++ (s ∷ after)) × T (rowSound w (earlier ++ before) s) = earlier-of (rowSound w) earlier (r ∷ rs) t s m in
         let a : T (active earlier (r .user) (s .role)) = rests-on-active w earlier r (row-supported w earlier r (and-left (rowSound w earlier r) (allOverEarlier (rowSound w) (earlier ++ (r ∷ [])) rs) t)) (s .role) (v .wanted) in
-        refute (active (earlier ++ h .0) (s .user) (s .role)) (row-new w (earlier ++ h .0) s (h .3))
+        T-not (active (earlier ++ h .0) (s .user) (s .role)) (row-new w (earlier ++ h .0) s (h .3))
         (active-grows earlier (earlier ++ h .0) (s .user) (s .role) (λ x k. part-member x earlier _ (part-front earlier (h .0)) k) (subst⁻¹ (λ (n : ℕ). T (active earlier n (s .role))) (v .same) a))
 
 -- ── fewer certificates and fewer true facts support no more ──

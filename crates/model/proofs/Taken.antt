@@ -1,13 +1,13 @@
 -- Taking away what a list of withdrawals names: it keeps the form of a state, it takes no more from a longer list's point of view, and
 -- taking away two lists in turn is taking away both at once. All at once then leaves a sound state.
-use Prim.Native.Nat.{ℕ, zero, suc, _+_, _-_, _≤_, _<_}
+use Prim.Native.Nat.{ℕ, zero, suc, _-_, _≤_, _<_}
 use mathlib.Core.Path.{_≡_, refl, sym, ap, _∙_, subst, subst⁻¹}
 use mathlib.Core.Bool.{Bool, true, false, not, _||_, cond}
 use mathlib.Core.Logic.{_⊎_}
 use mathlib.Core.List.{List, [], _∷_, _++_, List·Memᴰ, Sublistᴰ}
 use mathlib.Core.List.{List·Permᴰ, List·Permᴰ·nil, List·Permᴰ·cons, List·Permᴰ·swap, List·Permᴰ·trans}
 use native.Mathlib.Omega.{arith}
-use lib.Dec.{T, eqb, eqb→eq, eqb-refl}
+use lib.Dec.{T, eqb, eqb→eq, eqb-refl, T-not, not-T}
 use lib.ListN.{length, getD, set}
 use Rattle.model.specs.Lists.{any, all, allOverEarlier, without, isBit}
 use Rattle.model.specs.Records.{Policy, State, worldOf, withRows}
@@ -18,7 +18,7 @@ use Rattle.model.specs.Withdrawals.{Withdrawal, factFalse, certificateGo
 use Rattle.model.specs.declared.Row.{Row}
 use Rattle.model.specs.declared.Certificate.{Certificate}
 use Rattle.model.specs.Words.{Fits, SoundState}
-use Rattle.model.proofs.Tests.{and-left, and-right, and-both, or-left, or-right, or-cases, refute, not-of, is-false, any-map, any-append}
+use Rattle.model.proofs.Tests.{and-left, and-right, and-both, or-left, or-right, or-cases, is-false, any-map, any-append}
 use Rattle.model.proofs.Parts.{part-member, part-length, without-part, without-member, without-keeps, without-same, without-twice}
 use Rattle.model.proofs.Support.{Less}
 use Rattle.model.proofs.Kept.{sound-rows, fallen-sound, ByUser, rows-without-user}
@@ -34,7 +34,7 @@ named : (few many : List Withdrawal) → Within few many → (test : Withdrawal 
 named few many sub test t = any-map test test few many (λ w m h. (sub w m, h)) t
 
 pub unnamed : (few many : List Withdrawal) → Within few many → (test : Withdrawal → Bool) → T (not (any test many)) → T (not (any test few))
-unnamed few many sub test n = not-of (any test few) (λ t. refute (any test many) n (named few many sub test t))
+unnamed few many sub test n = not-T (any test few) (λ t. T-not (any test many) n (named few many sub test t))
 
 -- in another order a list names the same
 pub any-order : (test : Withdrawal → Bool) {ws vs : List Withdrawal} → List·Permᴰ ws vs → any test ws ≡ any test vs

@@ -1,12 +1,13 @@
 -- Tests over lists, in words: what it says that some element passes, that every element does, that every clause is true.
-use Prim.Native.Nat.{ℕ, zero, suc, _<_, _≤_}
+use Prim.Native.Nat.{ℕ, zero, suc, _+_, _<_, _≤_}
 use mathlib.Core.Path.{_≡_, refl, sym, ap, _∙_, subst, subst⁻¹}
-use mathlib.Core.Bool.{Bool, true, false, not, _&&_, _||_, cond}
+use mathlib.Core.Bool.{Bool, true, false, not, _&&_, _||_, cond, true≢false}
 use mathlib.Core.Logic.{_⊎_, inl, inr}
 use mathlib.Core.List.{List, [], _∷_, _++_, append-assoc, append-nil, List·Memᴰ, List·Memᴰ·head, List·Memᴰ·tail, List·Memᴰ·cases-cons, List·Memᴰ·not-nil}
 use native.Mathlib.Omega.{arith}
 use lib.Dec.{T, ltb, ltb→lt, nltb→le}
-use lib.ListN.{length, getD}
+use lib.ListN.{length, getD, take, length-take}
+use lib.Seq.{getD-take}
 use Rattle.model.specs.Lists.{every, any, all, allOverEarlier, firstPlace}
 
 -- ── one test ──
@@ -29,14 +30,6 @@ of-false b e = subst⁻¹ (λ (x : Bool). T (not x)) e tt
 pub decide : (b : Bool) → T b ⊎ T (not b)
 decide true = inl tt
 decide false = inr tt
-
-pub refute : (b : Bool) → T (not b) → T b → ⊥
-refute true n t = n
-refute false n t = t
-
-pub not-of : (b : Bool) → (T b → ⊥) → T (not b)
-not-of true f = f tt
-not-of false f = tt
 
 pub not-not : (b : Bool) → T (not (not b)) → T b
 not-not true t = tt
@@ -158,6 +151,10 @@ module _ {A : Type 0} where
   at-place (x ∷ xs) zero d h = List·Memᴰ·head refl
   at-place (x ∷ xs) (suc i) d h = List·Memᴰ·tail (at-place xs i d (omega arith))
 
+  -- and one of the first n, where the place is one of theirs
+  pub among-first : (xs : List A) (n i : ℕ) (d : A) → i < n → i < length xs → List·Memᴰ (getD xs i d) (take n xs)
+  among-first xs n i d h k = subst (λ (x : A). List·Memᴰ x (take n xs)) (getD-take n xs i d h) (at-place (take n xs) i d (simp length-take (omega arith)))
+
   -- the first place that passes, where some place does
   pub first-place : (test : A → Bool) (xs : List A) (d : A) → T (any test xs)
       → (firstPlace test xs < length xs) × T (test (getD xs (firstPlace test xs) d)) × ((i : ℕ) → i < firstPlace test xs → T (not (test (getD xs i d))))
@@ -173,6 +170,31 @@ module _ {A : Type 0} where
           before : (i : ℕ) → i < suc (firstPlace test xs) → T (not (test (getD (x ∷ xs) i d)))
           before zero h = of-false (test x) e
           before (suc i) h = later u .2 i (omega arith)
+
+  pub first-none : (test : A → Bool) (l : List A) → any test l ≡ false → firstPlace test l ≡ length l
+  first-none test [] e = refl
+  first-none test (x ∷ l) e = go (test x) e (first-none test l)
+    where
+      go : (b : Bool) → (b || any test l) ≡ false → (any test l ≡ false → firstPlace test l ≡ length l) → cond b 0 (suc (firstPlace test l)) ≡ suc (length l)
+      go true q f = absurd (true≢false q)
+      go false q f = ap suc (f q)
+
+  -- a place within the list is found exactly if something passes
+  pub found-any : (test : A → Bool) (l : List A) → firstPlace test l < length l → any test l ≡ true
+  found-any test [] h = absurd (omega arith)
+  found-any test (x ∷ l) h = go (test x) h (found-any test l)
+    where
+      go : (b : Bool) → cond b 0 (suc (firstPlace test l)) < suc (length l) → (firstPlace test l < length l → any test l ≡ true) → (b || any test l) ≡ true
+      go true q f = refl
+      go false q f = f (omega arith)
+
+  pub not-found : (test : A → Bool) (l : List A) → length l ≤ firstPlace test l → any test l ≡ false
+  not-found test [] h = refl
+  not-found test (x ∷ l) h = go (test x) h (not-found test l)
+    where
+      go : (b : Bool) → suc (length l) ≤ cond b 0 (suc (firstPlace test l)) → (length l ≤ firstPlace test l → any test l ≡ false) → (b || any test l) ≡ false
+      go true q f = absurd (omega arith)
+      go false q f = f (omega arith)
 
   -- every element over those before it: one more at the end
   pub earlier-append : (test : List A → A → Bool) (earlier xs ys : List A)
@@ -226,3 +248,20 @@ below-at test (suc n) t k h = go (lt-or-ge k n) (below-at test n (and-left (belo
     go : (k < n) ⊎ (n ≤ k) → (k < n → test k ≡ true) → test k ≡ true
     go (inl l) earlier = earlier l
     go (inr l) earlier = let e : n ≡ k = omega arith in subst (λ (m : ℕ). test m ≡ true) e (is-true (test n) (and-right (below test n) (test n) t))
+
+-- ── the last arm of a match ──
+
+-- none of the n numbers from `low` on, as the last arm knows it
+abbrev pub NoneOf : ℕ → ℕ → ℕ → Type 0
+NoneOf number low zero = Unit {0}
+NoneOf number low (suc n) = NoneOf number low n × (number ≡ low + n → ⊥)
+
+past : (number low n : ℕ) → low ≤ number → NoneOf number low n → low + n ≤ number
+past number low zero h none = omega arith
+past number low (suc n) h none = next (past number low n h (none .0)) (none .1)
+  where
+    next : low + n ≤ number → (number ≡ low + n → ⊥) → low + suc n ≤ number
+    next l e = omega arith
+
+pub the-last : (number low n : ℕ) → low ≤ number → number < suc (low + n) → NoneOf number low n → number ≡ low + n
+the-last number low n h k none = let l = past number low n h none in omega arith

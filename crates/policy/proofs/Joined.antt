@@ -1,7 +1,7 @@
 -- Numbers joined bit by bit: what is joined is zero exactly if each number is.
 use Prim.Native.Nat.{ℕ, zero, suc, _+_, _/_, _≤_, _<_}
 use mathlib.Core.Path.{_≡_, refl, sym, ap, _∙_}
-use mathlib.Core.Bool.{Bool, true, false, false≢true, _&&_, cond, and-true}
+use mathlib.Core.Bool.{Bool, true, false, false≢true, _&&_, cond, and-true, and-assoc}
 use mathlib.Core.Logic.{_⊎_, inl, inr}
 use mathlib.Core.List.{List, [], _∷_, _++_}
 use native.Mathlib.Omega.{arith}
@@ -42,23 +42,14 @@ none-over x limit p = go (lt-or-ge x limit)
     go (inl h) = eq-eqb (x / limit) 0 (div-eq-of-lt h) ∙ sym (lt-ltb x limit h)
     go (inr h) = ne-eqb (x / limit) 0 (λ e. omega (arith, e, le-div-iff-mul-le {x = 1} {y = x} p .1 (omega (arith, h)))) ∙ sym (le-ltb x limit h)
 
-and-joined : (a b c : Bool) → ((a && b) && c) ≡ (a && (b && c))
-and-joined true b c = refl
-and-joined false b c = refl
-
 right-over : (over : ℕ) (r : Right) → eqb (bitOr (bitOr over (r .role / 256)) (r .privilege / 1024)) 0 ≡ (eqb over 0 && rightFits r)
 unfolding rightClauses
 right-over over r =
     join-zero (bitOr over (r .role / 256)) (r .privilege / 1024)
     ∙ (λ i. join-zero over (r .role / 256) i && none-over (r .privilege) 1024 (omega arith) i)
     ∙ (λ i. (eqb over 0 && none-over (r .role) 256 (omega arith) i) && ltb (r .privilege) 1024)
-    ∙ join (eqb over 0) (ltb (r .role) 256) (ltb (r .privilege) 1024)
-  where
-    join : (a b c : Bool) → ((a && b) && c) ≡ (a && (b && (c && true)))
-    join true true true = refl
-    join true true false = refl
-    join true false c = refl
-    join false b c = refl
+    ∙ and-assoc (eqb over 0) (ltb (r .role) 256) (ltb (r .privilege) 1024)
+    ∙ ap (λ (v : Bool). eqb over 0 && (ltb (r .role) 256 && v)) (sym (and-true (ltb (r .privilege) 1024)))
 
 -- one right more
 pub right-more : (rights : List ℕ) (i over : ℕ) (r : Right) → r ≡ rightAt rights i → eqb over 0 ≡ all rightFits (entries rightFrom 2 rights i) → eqb (bitOr (bitOr over (r .role / 256)) (r .privilege / 1024)) 0 ≡ all rightFits (entries rightFrom 2 rights (i + 1))
@@ -100,8 +91,8 @@ module _ (fits : ℕ → Bool) where
   mixed-last : (n : ℕ) (cs : List ℕ) (c : ℕ) → mixed n (cs ++ (c ∷ [])) ≡ (mixed n cs && asked n (length cs) c)
   mixed-last zero [] c = and-true (isZero c) ∙ ap (λ (b : Bool). cond b (fits c) (isZero c)) (sym (le-ltb 0 0 (omega arith)))
   mixed-last (suc n) [] c = and-true (fits c) ∙ ap (λ (b : Bool). cond b (fits c) (isZero c)) (sym (lt-ltb 0 (suc n) (omega arith)))
-  mixed-last zero (d ∷ cs) c = ap (λ (v : Bool). isZero d && v) (mixed-last zero cs c ∙ ap (λ (b : Bool). mixed zero cs && cond b (fits c) (isZero c)) (le-ltb (length cs) 0 (omega arith) ∙ sym (le-ltb (suc (length cs)) 0 (omega arith)))) ∙ sym (and-joined (isZero d) (mixed zero cs) _)
-  mixed-last (suc n) (d ∷ cs) c = ap (λ (v : Bool). fits d && v) (mixed-last n cs c ∙ ap (λ (b : Bool). mixed n cs && cond b (fits c) (isZero c)) (same (lt-or-ge (length cs) n))) ∙ sym (and-joined (fits d) (mixed n cs) _)
+  mixed-last zero (d ∷ cs) c = ap (λ (v : Bool). isZero d && v) (mixed-last zero cs c ∙ ap (λ (b : Bool). mixed zero cs && cond b (fits c) (isZero c)) (le-ltb (length cs) 0 (omega arith) ∙ sym (le-ltb (suc (length cs)) 0 (omega arith)))) ∙ sym (and-assoc (isZero d) (mixed zero cs) _)
+  mixed-last (suc n) (d ∷ cs) c = ap (λ (v : Bool). fits d && v) (mixed-last n cs c ∙ ap (λ (b : Bool). mixed n cs && cond b (fits c) (isZero c)) (same (lt-or-ge (length cs) n))) ∙ sym (and-assoc (fits d) (mixed n cs) _)
     where
       same : (length cs < n) ⊎ (n ≤ length cs) → ltb (length cs) n ≡ ltb (suc (length cs)) (suc n)
       same (inl h) = lt-ltb (length cs) n h ∙ sym (lt-ltb (suc (length cs)) (suc n) (omega (arith, h)))

@@ -7,7 +7,7 @@ ghost use mathlib.Core.Logic.{_≢_};
 ghost use lib.Dec.{eqb, ltb};
 ghost use lib.ListN.{length, take, drop};
 ghost use Rattle.model.specs.Lists.{all, isZero};
-ghost use Rattle.model.specs.Limits.{roles as mostRoles, mostKinds};
+ghost use Rattle.model.specs.Limits.{roles, mostKinds};
 ghost use Rattle.model.specs.Layout.{policyOf, rightFrom};
 ghost use Rattle.model.specs.Conditions.{meant};
 ghost use Rattle.model.specs.Sound.{conditionFits, ruleFits, kindFits, rightFits, soundPolicy};
@@ -205,15 +205,15 @@ fn rules_fit(rules: &[u16], kinds: &[u16], counting: &[u16]) -> bool
     true
 }
 
-// The first n of the roles are in range, and those past n are 0.
-fn roles_fit(counting: &[u16], roles: [u16; 4], n: usize) -> bool
+// The first n of the prerequisites are roles, and those past n are 0.
+fn roles_fit(counting: &[u16], prerequisites: [u16; 4], n: usize) -> bool
     requires { ⌜ Counting (now counting) × (n ≤ 4) ⌝ }
-    ensures { λ r. ⌜ r ≡ (all (λ (q : ℕ). ltb q mostRoles) (take n roles) && all isZero (drop n roles)) ⌝ }
+    ensures { λ r. ⌜ r ≡ (all (λ (q : ℕ). ltb q roles) (take n prerequisites) && all isZero (drop n prerequisites)) ⌝ }
 {
     let mut over: u16 = 0;
     let mut j: usize = 0;
     while j < 4 {
-        let q = roles[j];
+        let q = prerequisites[j];
         over = over | wrong(q, q < ROLES, counting[n * 8 + j] == 1);
         j += 1;
     }

@@ -17,7 +17,7 @@ use Rattle.model.specs.Calls.{settled, activateOn, appointOn, revokeOn, withdra
 use Rattle.program.specs.Text.{ascii, decimal, isQuoted, unquoted, isNumber}
 use Rattle.program.specs.Vocabulary.{same, wordOf}
 use Rattle.program.specs.Lines.{lineClauses, lineFrom, lineOf}
-use Rattle.program.specs.Program.{Machine, isBad, withRow, callOf, badWays, afterBad, afterPolicy, afterEvent, step, program}
+use Rattle.program.specs.Program.{Machine, isBad, withRow, lineCall, badWays, afterBad, afterPolicy, afterEvent, step, program}
 
 -- an input and the output that is wanted of it, as bytes
 record Case : Type 0 where
@@ -195,7 +195,7 @@ table : List (List Case)
 table = session ∷ events ∷ records-cut ∷ quoting ∷ numbers ∷ words-and-counts ∷ policies ∷ limits ∷ []
 
 cases : all (all goesRight) table ≡ true
-unfolding table session events records-cut quoting numbers words-and-counts policies limits policyOf decode encode meant active someStands holds satisfied supported rolesAsked restsOn left conditionFits ruleClauses kindClauses rightClauses policyClauses rowClauses certificateClauses formClauses soundRecords sound direct effectively judgedFirst decided settled activateOn appointOn revokeOn withdrawOn environmentOn logoutOn allowed invokeOn effectiveOn chainOn freshOn courseOf answer isQuoted unquoted isNumber wordOf lineClauses lineFrom lineOf withRow callOf badWays afterBad afterPolicy afterEvent step program
+unfolding table session events records-cut quoting numbers words-and-counts policies limits policyOf decode encode meant active someStands holds satisfied supported rolesAsked restsOn left conditionFits ruleClauses kindClauses rightClauses policyClauses rowClauses certificateClauses formClauses soundRecords sound direct effectively judgedFirst decided settled activateOn appointOn revokeOn withdrawOn environmentOn logoutOn allowed invokeOn effectiveOn chainOn freshOn courseOf answer isQuoted unquoted isNumber wordOf lineClauses lineFrom lineOf withRow lineCall badWays afterBad afterPolicy afterEvent step program
 cases = refl
 
 -- a machine that has taken so many rows of zeros into its rules and its rights

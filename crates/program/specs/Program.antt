@@ -66,8 +66,8 @@ withRow t l =
     }
 
 -- the call that an event makes, by the words' order; a line of the policy makes none, and is not asked for one
-unfoldable pub callOf : Line → Call
-callOf l =
+unfoldable pub lineCall : Line → Call
+lineCall l =
     let a = number (l .numbers) 0 in
     let b = number (l .numbers) 1 in
     let c = number (l .numbers) 2 in
@@ -109,7 +109,7 @@ step m l =
     cond (m .stopped) m
     (cond (isBad m l) (afterBad m)
     (cond (isPolicy l) (afterPolicy m l)
-    (afterEvent m (answer (m .tables) (m .state) [] (callOf l)))))
+    (afterEvent m (answer (m .tables) (m .state) [] (lineCall l)))))
 
 abbrev pub steps : Machine → List Line → Machine
 steps m [] = m

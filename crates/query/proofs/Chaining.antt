@@ -5,7 +5,7 @@ use mathlib.Core.Bool.{Bool, true, false, not, _||_, cond, true≢false}
 use mathlib.Core.Logic.{_⊎_, inl, inr, _≢_}
 use mathlib.Core.List.{List, [], _∷_, _++_, append-nil, append-assoc, List·Memᴰ, List·Memᴰ·head, List·Memᴰ·cases-cons, List·Memᴰ·not-nil}
 use native.Mathlib.Omega.{arith}
-use lib.Dec.{T, eqb, ltb, eqb→eq, ltb→lt}
+use lib.Dec.{T, eqb, ltb, eqb→eq, ltb→lt, not-T}
 use borrow.Author.Tests.{lt-ltb, le-ltb}
 use lib.ListN.{length, getD, take, drop, set, replicate, length-take, length-drop, length-replicate, getD-replicate, take-append-drop}
 use lib.Seq.{take-suc-set, getD-take, getD-drop, ext-getD}
@@ -17,13 +17,14 @@ use Rattle.model.specs.Conditions.{isRow, active, restsOn}
 use Rattle.model.specs.Chain.{written, someTwice}
 use Rattle.model.specs.Words.{Sound}
 use Rattle.model.specs.declared.Row.{Row}
-use Rattle.model.proofs.Tests.{is-true, is-false, not-of, any-of}
+use Rattle.model.proofs.Tests.{is-true, is-false, any-of}
 use Rattle.model.proofs.Parts.{without-append}
 use Rattle.model.proofs.Support.{isRow-user, isRow-role, rests-on-active, row-role, row-supported}
 use Rattle.table.specs.Entries.{rowAt, firstRows}
+use Rattle.table.proofs.Entries.{rows-more}
 use Rattle.fall.specs.Writes.{Zeroed}
 use Rattle.rests.specs.Newest.{newest}
-use Rattle.rests.proofs.Newest.{rows-more, row-for, newest-active, newest-within}
+use Rattle.rests.proofs.Newest.{row-for, newest-active, newest-within}
 use Rattle.query.proofs.Single.{sound-row, first-for, newest-stays}
 
 -- what is still to be written from a role on, at most so many roles; 256 stands for no role
@@ -133,7 +134,7 @@ module _ (t : Tables) (s : List ℕ) (h : Sound t s) (u : ℕ) where
 
   -- the role is not among those written after it: they have rows before its own
   not-after : (most q k : ℕ) → newest s u q k ≢ 0 → k ≤ rowCount s → among (onward t s u most (getD (restsOn policy (rowFor q k)) 0 256)) q ≡ false
-  not-after most q k z l = is-false (among (onward t s u most (getD (restsOn policy (rowFor q k)) 0 256)) q) (not-of (among (onward t s u most (getD (restsOn policy (rowFor q k)) 0 256)) q) again)
+  not-after most q k z l = is-false (among (onward t s u most (getD (restsOn policy (rowFor q k)) 0 256)) q) (not-T (among (onward t s u most (getD (restsOn policy (rowFor q k)) 0 256)) q) again)
     where
       again : T (among (onward t s u most (getD (restsOn policy (rowFor q k)) 0 256)) q) → ⊥
       again a =

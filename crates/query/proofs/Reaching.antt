@@ -5,7 +5,7 @@ use mathlib.Core.Bool.{Bool, true, false, _&&_, _||_, cond, true≢false}
 use mathlib.Core.Logic.{_⊎_, inl, inr}
 use mathlib.Core.List.{List, [], _∷_, reverse, List·Memᴰ}
 use native.Mathlib.Omega.{arith}
-use lib.Dec.{T, eqb}
+use lib.Dec.{T, eqb, T-not, not-T}
 use borrow.Author.Tests.{eq-eqb, eqb-true}
 use lib.ListN.{length, getD, set, replicate, length-set, length-replicate}
 use Rattle.model.specs.Lists.{any, joined}
@@ -14,13 +14,13 @@ use Rattle.model.specs.Layout.{policyOf, rowCount}
 use Rattle.model.specs.Conditions.{meant, isRow, membership, ruleNumbered, rolesAsked, restsOn}
 use Rattle.model.specs.declared.Row.{Row}
 use Rattle.model.specs.Words.{Sound}
-use Rattle.model.proofs.Tests.{lt-or-ge, is-true, of-true, is-false, of-false, not-of, refute, and-left, and-right, and-both, any-of, of-any, at-place}
+use Rattle.model.proofs.Tests.{lt-or-ge, is-true, of-true, is-false, of-false, and-left, and-right, and-both, any-of, of-any, at-place}
 use Rattle.model.proofs.Support.{isRow-user, isRow-role, joined-of, of-joined}
 use Rattle.model.proofs.Carried.{reverse-last}
 use Rattle.table.specs.Entries.{rowAt, firstRows, without-rights}
+use Rattle.table.proofs.Entries.{rows-more}
 use Rattle.rests.specs.Newest.{newest}
 use Rattle.rests.specs.Marked.{Answered, Closed, Grown}
-use Rattle.rests.proofs.Newest.{rows-more}
 use Rattle.rests.proofs.Asking.{roles-same}
 use Rattle.rests.proofs.Marking.{place-of, mark-here, mark-only}
 use Rattle.direct.specs.Having.{hasRight}
@@ -181,7 +181,7 @@ module _ (rules kinds : List ℕ) (having : List Bool) (s : List ℕ) (u : ℕ) 
         yes (inr x) = some-grown g x
 
         none : NoneReached tables having s u b k → restReaches tables having s u k ≡ false
-        none n = is-false (any (reachedIn tables having s u k) (restsOn (policyOf tables) (rowAt s k))) (not-of (any (reachedIn tables having s u k) (restsOn (policyOf tables) (rowAt s k))) (λ x. hit (any-of (reachedIn tables having s u k) (restsOn (policyOf tables) (rowAt s k)) x)))
+        none n = is-false (any (reachedIn tables having s u k) (restsOn (policyOf tables) (rowAt s k))) (not-T (any (reachedIn tables having s u k) (restsOn (policyOf tables) (rowAt s k))) (λ x. hit (any-of (reachedIn tables having s u k) (restsOn (policyOf tables) (rowAt s k)) x)))
           where
             missed : (q : ℕ) → (q < 256) ⊎ (256 ≤ q) → (j : ℕ) × (j < length ownConditions) × List·Memᴰ q (asks (getD ownConditions j 0)) → reachedIn tables having s u k q ≡ false
             missed q (inl m) o = n q m (f (o .0) (o .1) q m (o .2))
@@ -191,7 +191,7 @@ module _ (rules kinds : List ℕ) (having : List Bool) (s : List ℕ) (u : ℕ) 
             placed q o = let p = place-of ownConditions 0 (o .0) (o .1) in (p .0, p .1, subst (λ (c : ℕ). List·Memᴰ q (asks c)) (p .2) (o .2))
 
             hit : (q : ℕ) × List·Memᴰ q (restsOn (policyOf tables) (rowAt s k)) × T (reachedIn tables having s u k q) → ⊥
-            hit x = refute (reachedIn tables having s u k (x .0)) (of-false (reachedIn tables having s u k (x .0)) (missed (x .0) (lt-or-ge (x .0) 256) (placed (x .0) (joined-of asks ownConditions (x .0) (subst (List·Memᴰ (x .0)) rests-asks (x .1)))))) (x .2)
+            hit x = T-not (reachedIn tables having s u k (x .0)) (of-false (reachedIn tables having s u k (x .0)) (missed (x .0) (lt-or-ge (x .0) 256) (placed (x .0) (joined-of asks ownConditions (x .0) (subst (List·Memᴰ (x .0)) rests-asks (x .1)))))) (x .2)
 
 -- on sound tables
 pub ready : (t full : Tables) (having : List Bool) (s : List ℕ) (u : ℕ) → Sound full s → Ready t having s u

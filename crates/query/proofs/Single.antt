@@ -5,20 +5,21 @@ use mathlib.Core.Bool.{Bool, true, false, _&&_, cond}
 use mathlib.Core.Logic.{_⊎_, inl, inr, _≢_}
 use mathlib.Core.List.{List, [], _∷_}
 use native.Mathlib.Omega.{arith}
-use lib.Dec.{T, ltb→lt}
+use lib.Dec.{T, ltb→lt, T-not}
 use Rattle.model.specs.Lists.{allOverEarlier}
 use Rattle.model.specs.Records.{Tables, World, worldOf}
 use Rattle.model.specs.Layout.{policyOf, decode, rowCount}
 use Rattle.model.specs.Conditions.{isRow, active}
 use Rattle.model.specs.Sound.{rowSound}
 use Rattle.model.specs.Words.{Sound}
-use Rattle.model.proofs.Tests.{lt-or-ge, of-true, refute, and-left, and-right, earlier-append}
+use Rattle.model.proofs.Tests.{lt-or-ge, of-true, and-left, and-right, earlier-append}
 use Rattle.model.proofs.Numbers.{sound-decode}
 use Rattle.model.proofs.Kept.{sound-rows}
 use Rattle.model.proofs.Support.{isRow-user, isRow-role, row-new, row-role}
 use Rattle.table.specs.Entries.{rowAt, firstRows}
+use Rattle.table.proofs.Entries.{rows-more}
 use Rattle.rests.specs.Newest.{newest, RolesFit}
-use Rattle.rests.proofs.Newest.{rows-more, newest-some}
+use Rattle.rests.proofs.Newest.{newest-some}
 
 module _ (t : Tables) (s : List ℕ) (h : Sound t s) where
   abbrev world : World
@@ -63,7 +64,7 @@ module _ (t : Tables) (s : List ℕ) (h : Sound t s) where
       again a = subst⁻¹ (λ (n : ℕ). T (active (firstRows s k) n (rowAt s k .role))) (isRow-user u q (rowAt s k) i) (subst⁻¹ (λ (n : ℕ). T (active (firstRows s k) u n)) (isRow-role u q (rowAt s k) i) (of-true (active (firstRows s k) u q) a))
 
       go : (0 < newest s u q k) ⊎ (newest s u q k ≤ 0) → newest s u q k ≡ 0
-      go (inl m) = absurd (refute (active (firstRows s k) (rowAt s k .user) (rowAt s k .role)) (row-new world (firstRows s k) (rowAt s k) (sound-row k l)) (again (newest-some s u q k (λ z. omega arith))))
+      go (inl m) = absurd (T-not (active (firstRows s k) (rowAt s k .user) (rowAt s k .role)) (row-new world (firstRows s k) (rowAt s k) (sound-row k l)) (again (newest-some s u q k (λ z. omega arith))))
       go (inr m) = omega arith
 
   -- a role with a row among the first k has no other row after them

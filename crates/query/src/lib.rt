@@ -28,7 +28,7 @@ fn told(so: bool) -> Answer
     if so {
         return Answer { code: 0, second: 1 };
     }
-    inner::refused(0)
+    Answer { code: 0, second: 0 }
 }
 
 pub fn invoke(

@@ -11,7 +11,7 @@ use lib.ListN.{length, getD, take, set, length-set}
 use lib.Seq.{getD-set-same, getD-set-other, getD-take}
 use Rattle.model.specs.Layout.{policyOf}
 use Rattle.model.specs.Conditions.{meant, rolesAsked}
-use Rattle.model.proofs.Tests.{lt-or-ge, at-place}
+use Rattle.model.proofs.Tests.{lt-or-ge, among-first}
 use Rattle.table.specs.Entries.{without-rights}
 use Rattle.rests.specs.Marked.{Answered, Closed, Grown, ConditionAsked, Known, RowAsked}
 use Rattle.rests.proofs.Asking.{asked-role, asked-none}
@@ -224,8 +224,7 @@ kind-marked kinds a b roles n j c w size four few e all z k l h g =
         named (inl y) = inl y
         named (inr y) =
             let within : y .0 < n = omega (arith, y .1) in
-            let at : getD (take n roles) (y .0) 0 ≡ q = getD-take n roles (y .0) 0 within ∙ sym (y .2) in
-            inr (0, omega arith, subst (List·Memᴰ q) e (subst (λ (x : ℕ). List·Memᴰ x (take n roles)) at (at-place (take n roles) (y .0) 0 (simp lib.ListN.length-take (omega arith)))))
+            inr (0, omega arith, subst (List·Memᴰ q) e (subst⁻¹ (λ (x : ℕ). List·Memᴰ x (take n roles)) (y .2) (among-first roles n (y .0) 0 within (omega (arith, four, within)))))
 
 -- a condition that was not known is a kind, which asks
 pub asked-then : (kinds : List ℕ) (a b d : List Bool) (c : ℕ) → b ≡ a → ConditionAsked kinds b d c → ConditionAsked kinds a d c

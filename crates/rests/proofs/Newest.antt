@@ -3,16 +3,14 @@ use Prim.Native.Nat.{ℕ, zero, suc, _-_, _≤_, _<_}
 use mathlib.Core.Path.{_≡_, refl, sym, ap, _∙_, subst}
 use mathlib.Core.Bool.{Bool, true, false, _||_, cond, or-true}
 use mathlib.Core.Logic.{_⊎_, inl, inr, _≢_}
-use mathlib.Core.List.{List, [], _∷_, _++_}
+use mathlib.Core.List.{List, [], _∷_}
 use native.Mathlib.Omega.{arith}
-use native.Mathlib.Numerals.{add-one}
 use lib.Dec.{T}
 use Rattle.model.specs.Lists.{any}
-use Rattle.model.specs.Layout.{rowFrom, rowNumbers}
 use Rattle.model.specs.Conditions.{isRow, active}
 use Rattle.model.proofs.Tests.{lt-or-ge, of-true, any-append}
 use Rattle.table.specs.Entries.{rowAt, firstRows}
-use Rattle.table.proofs.Entries.{entries-more}
+use Rattle.table.proofs.Entries.{rows-more}
 use Rattle.rests.specs.Newest.{newest}
 
 module _ (s : List ℕ) (u q : ℕ) where
@@ -50,11 +48,6 @@ module _ (s : List ℕ) (u q : ℕ) where
       go : (b : Bool) → isRow u q (rowAt s k) ≡ b → cond b (suc k) (newest s u q k) ≢ 0 → (newest s u q k ≢ 0 → T (isRow u q (rowAt s (newest s u q k - 1)))) → T (isRow u q (rowAt s (cond b (suc k) (newest s u q k) - 1)))
       go true r w f = let at : k ≡ suc k - 1 = omega arith in subst (λ (n : ℕ). T (isRow u q (rowAt s n))) at (of-true (isRow u q (rowAt s k)) r)
       go false r w f = f w
-
--- the rows up to k, with row k behind them
-pub rows-more : (s : List ℕ) (k : ℕ) → firstRows s (suc k) ≡ firstRows s k ++ (rowAt s k ∷ [])
-unfolding firstRows rowAt
-rows-more s k = ap (λ (n : ℕ). firstRows s n) (sym (add-one k)) ∙ entries-more rowFrom 3 (rowNumbers s) k
 
 -- the user is active in the role in the first k rows exactly if there is a newest row for it
 pub newest-active : (s : List ℕ) (u q k : ℕ) → newest s u q k ≡ 0 → active (firstRows s k) u q ≡ false

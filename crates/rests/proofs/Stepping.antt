@@ -4,7 +4,7 @@ use mathlib.Core.Path.{_≡_, refl, sym, ap, _∙_, subst}
 use mathlib.Core.List.{List, [], _∷_, _++_, append-assoc}
 use native.Mathlib.Omega.{arith}
 use native.Mathlib.Numerals.{add-one}
-use lib.ListN.{length, getD, take}
+use lib.ListN.{length, getD, take, List·getD-append}
 use lib.Seq.{take-suc}
 use Rattle.model.specs.Lists.{joined}
 use Rattle.model.specs.Records.{Tables}
@@ -20,10 +20,6 @@ module _ {A : Type 0} where
   empty-parts : (xs ys : List A) → xs ++ ys ≡ [] → (xs ≡ []) × (ys ≡ [])
   empty-parts [] ys e = (refl, e)
   empty-parts (x ∷ xs) ys e = let z : suc (length (xs ++ ys)) ≡ 0 = ap length e in absurd (omega arith)
-
-  head-append : (xs ys : List A) (d : A) → 0 < length xs → getD (xs ++ ys) 0 d ≡ getD xs 0 d
-  head-append [] ys d h = absurd (omega arith)
-  head-append (x ∷ xs) ys d h = refl
 
   -- the first of the first n
   head-taken : (n : ℕ) (l whole : List A) (d e : A) → take n l ≡ whole → 0 < n → 0 < length l → (0 < length whole) × (getD whole 0 d ≡ getD l 0 e)
@@ -44,7 +40,7 @@ module _ {A B : Type 0} (f : A → List B) where
   joined-head : (l : List A) (d : A) (o : B) (n i : ℕ) → i < n → i < length l → joined f (take i l) ≡ [] → 0 < length (f (getD l i d)) → getD (joined f (take n l)) 0 o ≡ getD (f (getD l i d)) 0 o
   joined-head [] d o n i h k e z = absurd (omega arith)
   joined-head (x ∷ l) d o zero i h k e z = absurd (omega arith)
-  joined-head (x ∷ l) d o (suc n) zero h k e z = head-append (f x) (joined f (take n l)) o z
+  joined-head (x ∷ l) d o (suc n) zero h k e z = List·getD-append (f x) (joined f (take n l)) o 0 z
   joined-head (x ∷ l) d o (suc n) (suc i) h k e z =
       let parts : (f x ≡ []) × (joined f (take i l) ≡ []) = empty-parts (f x) (joined f (take i l)) e in
       ap (λ (w : List B). getD (w ++ joined f (take n l)) 0 o) (parts .0) ∙ joined-head l d o n i (omega arith) (omega arith) (parts .1) z

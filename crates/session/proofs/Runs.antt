@@ -7,16 +7,16 @@ use native.Mathlib.Omega.{arith}
 use native.Mathlib.Numerals.{add-one}
 use lib.Dec.{T, ltb→lt}
 use lib.ListN.{length, take, drop, length-take, length-drop}
-use Rattle.model.specs.Lists.{every}
+use Rattle.model.specs.Lists.{every, filledTo}
 use Rattle.model.specs.Records.{Tables}
 use Rattle.model.specs.Layout.{policyOf}
 use Rattle.model.specs.Sound.{soundPolicy, sound}
 use Rattle.model.specs.declared.Answer.{Answer}
 use Rattle.model.proofs.Tests.{of-true, each}
-use Rattle.program.specs.Text.{said}
+use Rattle.program.specs.Text.{said, valueOf}
 use Rattle.program.specs.Vocabulary.{wordOf}
-use Rattle.program.specs.Lines.{lineClauses, lineFrom, lineOfFields, lineOf}
-use Rattle.program.specs.Program.{Machine, answerRecord, badRecord, isFull, afterEvent, step, steps, callOf}
+use Rattle.program.specs.Lines.{lineClauses, lineFrom, lineOfFields, lineOf, unknown}
+use Rattle.program.specs.Program.{Machine, answerRecord, badRecord, isFull, afterEvent, step, steps, lineCall}
 use Rattle.program.specs.declared.Line.{Line}
 use Rattle.text.specs.Places.{part, recordEnd}
 use Rattle.text.proofs.Ends.{record-within}
@@ -27,8 +27,8 @@ use Rattle.writer.proofs.Sizes.{answer-short, bad-short}
 use Rattle.writer.proofs.Records.{event-length}
 use Rattle.inner.specs.Lent.{Answers}
 use Rattle.load.specs.Rows.{running, linesFrom}
-use Rattle.load.proofs.Machines.{bad-is, event-not-bad, policy-after-event, unknown-bad, bad-written, event-taken}
-use Rattle.event.specs.Standing.{Standing}
+use Rattle.load.proofs.Machines.{bad-is, event-not-bad, policy-after-event, unknown-bad, bad-written, event-taken, some}
+use Rattle.event.specs.Answerable.{Answerable}
 use Rattle.session.specs.Output.{Holds}
 
 -- ── lines ──
@@ -39,7 +39,7 @@ unfolding lineFrom lineClauses
 fields-known [] = omega arith
 fields-known (first ∷ arguments) = go (every (lineClauses (wordOf first) arguments)) refl
   where
-    go : (b : Bool) → every (lineClauses (wordOf first) arguments) ≡ b → cond b (record { word = wordOf first; count = length arguments; numbers = Rattle.model.specs.Lists.filledTo 10 (map Rattle.program.specs.Text.valueOf arguments) }) Rattle.program.specs.Lines.unknown .word ≤ 11
+    go : (b : Bool) → every (lineClauses (wordOf first) arguments) ≡ b → cond b (record { word = wordOf first; count = length arguments; numbers = filledTo 10 (map valueOf arguments) }) unknown .word ≤ 11
     go true e = let k : wordOf first < 11 = ltb→lt (wordOf first) 11 (each (lineClauses (wordOf first) arguments) (of-true (every (lineClauses (wordOf first) arguments)) e) .0) in omega (arith, k)
     go false e = omega arith
 
@@ -66,11 +66,11 @@ pub record Runs (t : Tables) (text : List ℕ) (from taken : ℕ) (s₀ : List �
   pub few : n ≤ at
   pub room : w ≤ 2 * at
   pub fits : 2 * length text + 16 ≤ length out
-  pub standing : Standing t s judged
+  pub answerable : Answerable t s judged
   pub so-far : steps (running t s₀ taken []) (linesFrom text from) .written ≡ steps (running t s n (take w out)) (linesFrom text at) .written
 
 pub runs-start : (t : Tables) (text : List ℕ) (from taken : ℕ) (s : List ℕ) (judged : Bool) (out : List ℕ) → T (sound (policyOf t) s) → judged ≡ soundPolicy t → from ≤ length text → taken ≤ from → 2 * length text + 16 ≤ length out → Runs t text from taken s judged from taken 0 s out
-runs-start t text from taken s judged out h j a b c = record { in-text = a; few = b; room = omega arith; fits = c; standing = record { policy = j; state = h }; so-far = refl }
+runs-start t text from taken s judged out h j a b c = record { in-text = a; few = b; room = omega arith; fits = c; answerable = record { policy = j; state = h }; so-far = refl }
 
 module _ (t : Tables) (text : List ℕ) (from taken : ℕ) (s₀ : List ℕ) (judged : Bool) (at n w : ℕ) (s out : List ℕ) (g : Runs t text from taken s₀ judged at n w s out) where
   abbrev here : Machine
@@ -78,7 +78,7 @@ module _ (t : Tables) (text : List ℕ) (from taken : ℕ) (s₀ : List ℕ) (ju
 
   -- an event is answered
   pub runs-on : (line : Line) (next : ℕ) (r : Answer) (s′ out′ : List ℕ) (w′ : ℕ) → at < length text → line ≡ lineAt text at → next ≡ nextAt text at → 3 ≤ line .word → line .word < 11 → r .code < 65536 → r .second < 65536
-      → Answers t s (callOf line) r s′ → T (sound (policyOf t) s′) → Wrote out out′ w (answerRecord (r .code) (r .second)) w′ → Runs t text from taken s₀ judged next (n + 1) w′ s′ out′
+      → Answers t s (lineCall line) r s′ → T (sound (policyOf t) s′) → Wrote out out′ w (answerRecord (r .code) (r .second)) w′ → Runs t text from taken s₀ judged next (n + 1) w′ s′ out′
   unfolding afterEvent
   runs-on line next r s′ out′ w′ h e f a b c₁ c₂ k v o =
       let far : at + 7 ≤ next = subst⁻¹ (λ (x : ℕ). at + 7 ≤ x) f (event-behind text at h (subst⁻¹ (λ (l : Line). 3 ≤ l .word) (sym e) a) (subst⁻¹ (λ (l : Line). l .word < 11) (sym e) b)) in
@@ -87,7 +87,7 @@ module _ (t : Tables) (text : List ℕ) (from taken : ℕ) (s₀ : List ℕ) (ju
         few = omega (arith, g .few, far);
         room = omega (arith, g .room, o .place, answer-short (r .code) (r .second) c₁ c₂, far);
         fits = omega (arith, g .fits, o .size);
-        standing = record { policy = g .standing .policy; state = v };
+        answerable = record { policy = g .answerable .policy; state = v };
         so-far =
             g .so-far
             ∙ ap (λ (ls : List Line). steps here ls .written) (lines-from text at h)
@@ -107,7 +107,7 @@ module _ (t : Tables) (text : List ℕ) (from taken : ℕ) (s₀ : List ℕ) (ju
       eleven : 11 ≤ line .word → line .word ≡ 11
       eleven a = let k : line .word ≤ 11 = subst⁻¹ (λ (l : Line). l .word ≤ 11) e (line-known text at) in omega (arith, a, k)
 
-      done : Wrote out out′ w (badRecord (n + 1)) w′ → Rattle.load.proofs.Machines.some (line .word) (isFull 512 11 (t .rules)) (isFull 128 7 (t .kinds)) (isFull 2048 2 (t .rights)) true ≡ true → Holds out′ w′ (steps (running t s₀ taken []) (linesFrom text from) .written)
+      done : Wrote out out′ w (badRecord (n + 1)) w′ → some (line .word) (isFull 512 11 (t .rules)) (isFull 128 7 (t .kinds)) (isFull 2048 2 (t .rights)) true ≡ true → Holds out′ w′ (steps (running t s₀ taken []) (linesFrom text from) .written)
       done o b =
           record {
             within = omega (arith, o .place, o .size, g .room, g .fits, g .in-text, bad-short (n + 1) (omega (arith, g .few, g .in-text)));

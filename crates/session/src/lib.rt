@@ -12,10 +12,9 @@ ghost use Rattle.session.specs.Output.{Holds};
 use model::KIND_WIDTH;
 use model::RIGHT_WIDTH;
 use model::RULE_WIDTH;
+use program::WORDS;
 
 const POLICY_WORDS: u16 = 3;
-
-const WORDS: u16 = 11;
 
 const MOST_BYTES: usize = 65536;
 

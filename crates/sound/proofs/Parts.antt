@@ -1,4 +1,4 @@
--- Tables judged entry by entry, each over those before it, and what a well formed state keeps to.
+-- Tables judged entry by entry, each over those before it.
 use Prim.Native.Nat.{ℕ, zero, suc, _+_, _≤_, _<_}
 use mathlib.Core.Path.{_≡_, sym, ap, _∙_}
 use mathlib.Core.Bool.{Bool, true, false, _&&_, and-false}
@@ -6,14 +6,9 @@ use mathlib.Core.Logic.{_⊎_, inl, inr}
 use mathlib.Core.List.{List, [], _∷_}
 use native.Mathlib.Omega.{arith}
 use native.Mathlib.Numerals.{add-one}
-use lib.Dec.{eqb→eq, leb→le}
-use lib.ListN.{length}
 use Rattle.model.specs.Lists.{allOverEarlier}
-use Rattle.model.specs.Limits.{stateSize, mostRows, mostCertificates}
-use Rattle.model.specs.Layout.{rowCount, certificateCount}
-use Rattle.model.specs.Sound.{formClauses, wellFormed}
-use Rattle.model.proofs.Tests.{of-true, each, earlier-append, lt-or-ge}
-use Rattle.table.specs.Entries.{entry, entries, Sized}
+use Rattle.model.proofs.Tests.{earlier-append, lt-or-ge}
+use Rattle.table.specs.Entries.{entry, entries}
 use Rattle.table.proofs.Entries.{entries-more}
 
 -- ── a loop that judges each entry over those before it ──
@@ -36,14 +31,3 @@ module _ {A : Type 0} (from : List ℕ → A) (width : ℕ) (test : List A → A
           ap (λ (k : ℕ). allOverEarlier test [] (entries from width table n) && (test (entries from width table k) (entry from width table k) && true)) q
           ∙ ap (λ (b : Bool). allOverEarlier test [] (entries from width table n) && (b && true)) e
           ∙ and-false (allOverEarlier test [] (entries from width table n))
-
--- ── a well formed state ──
-
-pub sized : (s : List ℕ) → wellFormed s ≡ true → Sized s
-unfolding formClauses
-sized s e =
-    record {
-      size = eqb→eq (length s) stateSize (each (formClauses s) (of-true (wellFormed s) e) .0);
-      rows = leb→le (rowCount s) mostRows (each (formClauses s) (of-true (wellFormed s) e) .1 .1 .0);
-      certificates = leb→le (certificateCount s) mostCertificates (each (formClauses s) (of-true (wellFormed s) e) .1 .1 .1 .0);
-    }

@@ -1,5 +1,5 @@
 -- What a sound state keeps of ranges.
-use Prim.Native.Nat.{ℕ, _+_, _/_, _≤_, _<_}
+use Prim.Native.Nat.{ℕ, _/_, _≤_, _<_}
 use mathlib.Core.Path.{_≡_, refl, sym, _∙_}
 use mathlib.Core.Bool.{Bool, true, false, true≢false}
 use mathlib.Core.List.{List, [], _++_}
@@ -13,11 +13,10 @@ use Rattle.model.specs.Sound.{rowClauses, rowSound, certificateClauses, certifi
 use Rattle.model.specs.declared.Row.{Row}
 use Rattle.model.proofs.Tests.{is-true, of-true, and-left, and-right, each, of-each, all-of, of-all, earlier-of}
 use Rattle.table.specs.Entries.{Sized}
-use Rattle.table.proofs.Entries.{length-entries}
+use Rattle.table.proofs.Entries.{length-entries, sized}
 use Rattle.index.specs.Indexed.{InRange}
 use Rattle.policy.specs.Lent.{kindsOnly}
 use Rattle.sound.specs.Ranges.{rangeClauses, rowInRange, CertificatesInRange}
-use Rattle.sound.proofs.Parts.{sized}
 
 row-range : (w : World) (earlier : List Row) (r : Row) → T (rowSound w earlier r) → T (rowInRange r)
 unfolding rowClauses rangeClauses

@@ -1,33 +1,38 @@
--- The laws by which loops over tables are proved: one entry more, an entry found, an entry missed; and what stands at each place.
-use Prim.Native.Nat.{ℕ, zero, suc, _+_, _*_, _-_, _/_, _≤_, _<_}
+-- The laws by which loops over tables are proved: one entry more, an entry found, an entry missed; what stands at each place; and
+-- what a well formed state keeps to.
+use Prim.Native.Nat.{ℕ, zero, suc, _+_, _*_, _/_, _≤_, _<_}
 use mathlib.Core.Path.{_≡_, refl, sym, ap, _∙_, subst}
 use mathlib.Core.Bool.{Bool, true, false, _&&_, _||_}
 use mathlib.Core.List.{List, [], _∷_, _++_, List·Memᴰ}
 use native.Mathlib.Omega.{arith}
 use native.Mathlib.Nat.{suc-mul, zero-mul, add-comm}
 use native.Mathlib.Numerals.{add-one}
-use lib.Dec.{T}
-use lib.ListN.{length, getD, take, drop, length-drop, length-take, List·getD-eq-default}
+use lib.Dec.{T, eqb→eq, leb→le}
+use lib.ListN.{length, getD, take, drop, length-drop, List·getD-eq-default, length-map}
 use lib.Seq.{getD-take, getD-drop, drop-drop, take-suc, ext-getD, length-take-le}
 use Rattle.model.specs.Lists.{any, all, rowsOf}
-use Rattle.model.proofs.Tests.{all-append, at-place, is-true, of-true, any-append, of-any, all-of}
-use Rattle.model.proofs.Numbers.{length-rows, length-map}
-use Rattle.table.specs.Entries.{entry, entries, ruleAt, kindAt, rightAt, rowAt, certificateAt}
+use Rattle.model.specs.Limits.{stateSize, mostRows, mostCertificates}
+use Rattle.model.specs.Layout.{rowFrom, rowNumbers, rowCount, certificateCount}
+use Rattle.model.specs.Sound.{formClauses, wellFormed}
+use Rattle.model.proofs.Tests.{all-append, at-place, is-true, of-true, any-append, of-any, all-of, each, among-first}
+use Rattle.model.proofs.Numbers.{length-rows}
+use Rattle.table.specs.Entries.{entry, entries, ruleAt, kindAt, rightAt, rowAt, firstRows, certificateAt, Sized}
 
 -- ── one entry more ──
 
 module _ {A : Type 0} (from : List ℕ → A) (width : ℕ) where
+  pub entries-next : (table : List ℕ) (k : ℕ) → entries from width table (suc k) ≡ entries from width table k ++ (entry from width table k ∷ [])
+  entries-next table zero = ap (λ (l : List ℕ). from (take width l) ∷ []) (sym (ap (λ (n : ℕ). drop n table) (zero-mul width)))
+  entries-next table (suc k) =
+      ap (λ (l : List A). from (take width table) ∷ l) (entries-next (drop width table) k)
+      ∙ ap (λ (l : List ℕ). from (take width table) ∷ (entries from width (drop width table) k ++ (from (take width l) ∷ []))) (drop-drop (k * width) width table ∙ ap (λ (n : ℕ). drop n table) (add-comm width (k * width) ∙ sym (suc-mul k width)))
+
+  -- the same, as a loop counts
   pub entries-more : (table : List ℕ) (k : ℕ) → entries from width table (k + 1) ≡ entries from width table k ++ (entry from width table k ∷ [])
-  entries-more table k = ap (λ (n : ℕ). entries from width table n) (add-one k) ∙ go table k
-    where
-      go : (table : List ℕ) (k : ℕ) → entries from width table (suc k) ≡ entries from width table k ++ (entry from width table k ∷ [])
-      go table zero = ap (λ (l : List ℕ). from (take width l) ∷ []) (sym (ap (λ (n : ℕ). drop n table) (zero-mul width)))
-      go table (suc k) =
-          ap (λ (l : List A). from (take width table) ∷ l) (go (drop width table) k)
-          ∙ ap (λ (l : List ℕ). from (take width table) ∷ (entries from width (drop width table) k ++ (from (take width l) ∷ []))) (drop-drop (k * width) width table ∙ ap (λ (n : ℕ). drop n table) (add-comm width (k * width) ∙ sym (suc-mul k width)))
+  entries-more table k = ap (entries from width table) (add-one k) ∙ entries-next table k
 
   pub length-entries : (table : List ℕ) (k : ℕ) → length (entries from width table k) ≡ k
-  length-entries table k = length-map from (rowsOf width k table) ∙ length-rows width k table
+  length-entries table k = length-map (rowsOf width k table) from ∙ length-rows width k table
 
   -- entry i is among the first n, at its place
   pub entry-in : (table : List ℕ) (n i : ℕ) (d : A) → i < n → getD (entries from width table n) i d ≡ entry from width table i
@@ -50,6 +55,11 @@ module _ {A : Type 0} (from : List ℕ → A) (width : ℕ) where
   pub any-hit : (test : A → Bool) (table : List ℕ) (n j : ℕ) → j < n → test (entry from width table j) ≡ true → any test (entries from width table n) ≡ true
   any-hit test table n j h e = is-true (any test (entries from width table n)) (of-any test (entry from width table j) (entries from width table n) (entry-member table n j h) (of-true (test (entry from width table j)) e))
 
+-- the rows up to k, with row k behind them
+pub rows-more : (s : List ℕ) (k : ℕ) → firstRows s (suc k) ≡ firstRows s k ++ (rowAt s k ∷ [])
+unfolding firstRows rowAt
+rows-more s k = entries-next rowFrom 3 (rowNumbers s) k
+
 -- ── a loop that looks for an element that fails, over a list by its places ──
 
 module _ {A : Type 0} (test : A → Bool) where
@@ -68,7 +78,7 @@ module _ {A : Type 0} (test : A → Bool) where
   all-next l d j h a b = ap (λ (n : ℕ). all test (take n l)) (add-one j) ∙ ap (all test) (take-suc l j d h) ∙ all-last (take j l) (getD l j d) a b
 
   pub all-miss : (l : List A) (d : A) (n j : ℕ) → j < n → j < length l → test (getD l j d) ≡ false → all test (take n l) ≡ false
-  all-miss l d n j h k e = all-spoilt (take n l) (getD l j d) (subst (λ (x : A). List·Memᴰ x (take n l)) (getD-take n l j d h) (at-place (take n l) j d (simp length-take (omega arith)))) e
+  all-miss l d n j h k e = all-spoilt (take n l) (getD l j d) (among-first l n j d h k) e
 
 module _ {A : Type 0} (from : List ℕ → A) (width : ℕ) where
   pub entries-all-next : (test : A → Bool) (table : List ℕ) (j : ℕ) → all test (entries from width table j) ≡ true → test (entry from width table j) ≡ true → all test (entries from width table (j + 1)) ≡ true
@@ -153,3 +163,14 @@ module _ (s : List ℕ) (i : ℕ) (h : i < 256) where
   pub certificate-places : certificateAt s i ≡ record { appointee = getD s (i * 3 + 834) 0; kind = getD s (i * 3 + 834 + 1) 0; appointer = getD s (i * 3 + 834 + 2) 0 }
   unfolding certificateAt
   certificate-places = λ j. record { appointee = first-table-number s 834 i h j; kind = table-number s 834 i 1 h (omega arith) j; appointer = table-number s 834 i 2 h (omega arith) j }
+
+-- ── a well formed state ──
+
+pub sized : (s : List ℕ) → wellFormed s ≡ true → Sized s
+unfolding formClauses
+sized s e =
+    record {
+      size = eqb→eq (length s) stateSize (each (formClauses s) (of-true (wellFormed s) e) .0);
+      rows = leb→le (rowCount s) mostRows (each (formClauses s) (of-true (wellFormed s) e) .1 .1 .0);
+      certificates = leb→le (certificateCount s) mostCertificates (each (formClauses s) (of-true (wellFormed s) e) .1 .1 .1 .0);
+    }

@@ -3,9 +3,9 @@ use Prim.Native.Nat.{ℕ, zero, suc, _+_, _≤_, _<_, _/_}
 use mathlib.Core.Path.{_≡_, refl, sym, ap, _∙_, subst, subst⁻¹}
 use mathlib.Core.Bool.{Bool, true, false, not, _&&_, _||_, cond}
 use mathlib.Core.Logic.{_⊎_, inl, inr}
-use mathlib.Core.List.{List, [], _∷_, _++_, List·Memᴰ, Memᴰ·append-right, List·Memᴰ·head, List·Memᴰ·tail, List·Memᴰ·cases-cons}
+use mathlib.Core.List.{List, [], _∷_, _++_, List·Memᴰ, Memᴰ·append-right, List·Memᴰ·head, List·Memᴰ·tail, List·Memᴰ·cases-cons, Memᴰ·append-left}
 use native.Mathlib.Omega.{arith}
-use lib.Dec.{T, eqb, ltb, eqb→eq, lt→ltb, le→leb}
+use lib.Dec.{T, eqb, ltb, eqb→eq, lt→ltb, le→leb, T-not, not-T}
 use lib.ListN.{length, getD, take, drop, length-take, length-drop, length-append}
 use borrow.Author.Tests.{lt-ltb, le-ltb}
 use Rattle.model.specs.Lists.{any, every, allOverEarlier, without, firstPlace, isBit}
@@ -21,18 +21,17 @@ use Rattle.model.specs.Words.{Fits, Sound, FirstApplies, none, here, later}
 use Rattle.model.specs.declared.Answer.{Answer}
 use Rattle.model.specs.declared.Row.{Row}
 use Rattle.model.specs.declared.Certificate.{Certificate}
-use Rattle.model.proofs.Tests.{and-right, is-true, of-true, of-false, not-of, refute, each, of-each, earlier-of}
+use Rattle.model.proofs.Tests.{and-right, is-true, of-true, of-false, each, of-each, earlier-of, found-any, not-found, of-any}
 use Rattle.model.proofs.Refusals.{first-applies, only-first}
 use Rattle.model.proofs.Parts.{without-none}
 use Rattle.model.proofs.Numbers.{decode-encode, encode-formed, sound-decode}
-use Rattle.model.proofs.Kept.{sound-certificates, fact-fits}
+use Rattle.model.proofs.Kept.{sound-certificates, fact-fits, certificates-fit}
 use Rattle.table.specs.Entries.{worldAt, without-rights}
+use Rattle.table.proofs.Entries.{sized}
 use Rattle.table.proofs.Worlds.{supported-same}
 use Rattle.index.specs.Indexed.{InRange}
 use Rattle.fall.specs.Changes.{Left}
-use Rattle.fall.proofs.Form.{formed, sized}
 use Rattle.inner.specs.Lent.{lent, Answers}
-use Rattle.inner.proofs.First.{found-any, not-found}
 use Rattle.inner.proofs.Codes.{judged, own-refuses, own-accepts, out-of-range, in-range, found, certificate-length, some-kind}
 use Rattle.taking.specs.Fallen.{Fallen, fallenRows}
 use Rattle.taking.specs.Taken.{takenOn, Comes}
@@ -47,7 +46,7 @@ pub encoded-in-range : (s s₁ : List ℕ) (v : State) → s₁ ≡ encode v →
 encoded-in-range s s₁ v e f r a b =
     let q : decode s₁ ≡ v = ap decode e ∙ decode-encode v f in
     record {
-      sized = sized s₁ (formed s₁ (encoded-formed s₁ v e f));
+      sized = sized s₁ (encoded-formed s₁ v e f);
       rows = λ x m. r .rows x (a x (subst (λ (y : State). List·Memᴰ x (y .rows)) q m));
       certificates = λ x m. r .certificates x (b x (subst (λ (y : State). List·Memᴰ x (y .certificates)) q m));
     }
@@ -73,12 +72,8 @@ fallen-after rules kinds s₁ s′ v lost e f l =
 
 pub one-less-fits : (t : State) (j : ℕ) → Fits t → Fits (withCertificates t (take j (t .certificates) ++ drop (suc j) (t .certificates)))
 one-less-fits t j f =
-    record {
-      all-facts = f .all-facts;
-      bits = f .bits;
-      room-for-rows = f .room-for-rows;
-      room-for-certificates = omega (arith, length-append (take j (t .certificates)) (drop (suc j) (t .certificates)), length-take j (t .certificates), length-drop (suc j) (t .certificates), f .room-for-certificates);
-    }
+    certificates-fit t (take j (t .certificates) ++ drop (suc j) (t .certificates)) f
+    (omega (arith, length-append (take j (t .certificates)) (drop (suc j) (t .certificates)), length-take j (t .certificates), length-drop (suc j) (t .certificates), f .room-for-certificates))
 
 -- ── the certificate at its first place is the only one of its sort ──
 
@@ -106,11 +101,11 @@ without-first p c earlier (x ∷ l) t a = go (sameCertificate c x) refl a (λ v.
     -- nothing behind is the same certificate once more
     alone : T (sameCertificate c x) → (y : Certificate) → List·Memᴰ y l → T (not (sameCertificate c y))
     alone s y m =
-        not-of (sameCertificate c y)
+        not-T (sameCertificate c y)
         (λ v.
         let e = earlier-of (certificateSound p) (earlier ++ (x ∷ [])) l rest y m in
-        refute (any (sameCertificate y) ((earlier ++ (x ∷ [])) ++ e .0)) (each (certificateClauses p ((earlier ++ (x ∷ [])) ++ e .0) y) (e .3) .1 .1 .1 .0)
-        (Rattle.model.proofs.Tests.of-any (sameCertificate y) x ((earlier ++ (x ∷ [])) ++ e .0) (mathlib.Core.List.Memᴰ·append-left (e .0) (Memᴰ·append-right earlier (List·Memᴰ·head refl))) (same-again c x y s v)))
+        T-not (any (sameCertificate y) ((earlier ++ (x ∷ [])) ++ e .0)) (each (certificateClauses p ((earlier ++ (x ∷ [])) ++ e .0) y) (e .3) .1 .1 .1 .0)
+        (of-any (sameCertificate y) x ((earlier ++ (x ∷ [])) ++ e .0) (Memᴰ·append-left (e .0) (Memᴰ·append-right earlier (List·Memᴰ·head refl))) (same-again c x y s v)))
 
     go : (b : Bool) → sameCertificate c x ≡ b → T (b || any (sameCertificate c) l) → (T (any (sameCertificate c) l) → without (sameCertificate c) l ≡ take (firstPlace (sameCertificate c) l) l ++ drop (suc (firstPlace (sameCertificate c) l)) l)
         → cond b (without (sameCertificate c) l) (x ∷ without (sameCertificate c) l) ≡ take (cond b 0 (suc (firstPlace (sameCertificate c) l))) (x ∷ l) ++ drop (suc (cond b 0 (suc (firstPlace (sameCertificate c) l)))) (x ∷ l)

@@ -1,16 +1,15 @@
 -- The fields behind a word, read one after the other into the numbers of a line: what is known after each, and which line it makes.
 use Prim.Native.Nat.{ℕ, suc, _+_, _-_, _<_, _≤_}
 use mathlib.Core.Path.{_≡_, refl, sym, ap, _∙_, subst}
-use mathlib.Core.Bool.{Bool, true, false, _&&_, cond}
+use mathlib.Core.Bool.{Bool, true, false, _&&_, cond, and-true, and-assoc}
 use mathlib.Core.List.{List, [], _∷_, _++_, map, map-append, append-assoc, append-nil}
 use native.Mathlib.Omega.{arith}
 use borrow.Author.Tests.{lt-ltb, le-ltb, lt-leb}
 use lib.Dec.{ltb, leb}
-use lib.ListN.{length, drop, set, replicate, length-append}
+use lib.ListN.{length, drop, set, replicate, length-append, length-map}
 use lib.Seq.{set-append-seam}
 use Rattle.model.specs.Lists.{every, all, filledTo}
 use Rattle.model.proofs.Tests.{all-append}
-use Rattle.model.proofs.Numbers.{length-map}
 use Rattle.program.specs.Text.{unquoted, isNumber, valueOf}
 use Rattle.program.specs.Vocabulary.{words, wordOf, numbered}
 use Rattle.program.specs.Lines.{mostNumbers, unknown, lineClauses, lineFrom, lineOfFields, lineOf}
@@ -63,7 +62,7 @@ module _ (fields : List (List ℕ)) (f : List ℕ) (later : List (List ℕ)) (co
   pub taken-more : (v : ℕ) → count < mostNumbers → numberOf f ≡ Value v → Taken fields later (count + 1) (set numbers count v)
   taken-more v h e =
       let done : List (List ℕ) = t .read in
-      let size : length (map valueOf done) ≡ count = length-map valueOf done ∙ t .counted in
+      let size : length (map valueOf done) ≡ count = length-map done valueOf ∙ t .counted in
       let fill : set (filledTo mostNumbers (map valueOf done)) count v ≡ filledTo mostNumbers (map valueOf done ++ (v ∷ [])) =
       ap (λ (k : ℕ). set (filledTo mostNumbers (map valueOf done)) k v) (sym size) ∙ filled-more (map valueOf done) v (omega arith) in
       record {
@@ -120,13 +119,7 @@ module _ (word : ℕ) (fields : List (List ℕ)) where
       line = record { word = word; count = length fields; numbers = filledTo mostNumbers (map valueOf fields) }
 
       go : (a b c : Bool) → (a && b) ≡ fits → c ≡ numeric → (d : Bool) → d ≡ true → cond (every (d ∷ a ∷ b ∷ c ∷ [])) line unknown ≡ cond (fits && numeric) line unknown
-      go a b c p q d r = rw (r, ← p, ← q) (last a b c)
-        where
-          last : (a b c : Bool) → cond (a && (b && (c && true))) line unknown ≡ cond ((a && b) && c) line unknown
-          last true true true = refl
-          last true true false = refl
-          last true false c = refl
-          last false b c = refl
+      go a b c p q d r = rw (r, ← p, ← q) (ap (λ (v : Bool). cond v line unknown) (ap (λ (v : Bool). a && (b && v)) (and-true c) ∙ sym (and-assoc a b c)))
 
   module _ (known : word < words) where
     pub wrong-count : (leb (numbered word .least) (length fields) && leb (length fields) (numbered word .greatest)) ≡ false → unknown ≡ lineFrom word fields

@@ -2,12 +2,11 @@
 -- one.
 use Prim.Native.Nat.{ℕ, _<_, _≤_}
 use mathlib.Core.Path.{_≡_}
-use mathlib.Core.Bool.{true}
 use mathlib.Core.List.{List, [], _∷_}
 use borrow.Author.Tests.{eqb-true, leb-true}
 use lib.Dec.{eqb, leb}
 use lib.ListN.{getD}
-use Rattle.model.proofs.Tests.{below, below-at}
+use Rattle.model.proofs.Tests.{below-at}
 use Rattle.program.specs.Vocabulary.{words, numbered}
 use Rattle.program.specs.Lines.{mostNumbers}
 

@@ -1,5 +1,5 @@
 -- The laws by which two texts are compared, a byte at a time, and the first word that passes is found.
-use Prim.Native.Nat.{ℕ, zero, suc, _+_, _<_, _≤_}
+use Prim.Native.Nat.{ℕ, suc, _+_, _<_, _≤_}
 use mathlib.Core.Path.{_≡_, refl, sym, ap, _∙_}
 use mathlib.Core.Bool.{Bool, true, false, _&&_}
 use mathlib.Core.List.{List, [], _∷_}
@@ -59,18 +59,3 @@ module _ {A : Type 0} (test : A → Bool) (l : List A) (i : ℕ) where
 -- a word by its number, where the number is known
 pub at-number : (f : List ℕ) {word : ℕ} (known : ℕ) → word ≡ known → same f (numbered known .letters) ≡ same f (numbered word .letters)
 at-number f known e = ap (λ (n : ℕ). same f (numbered n .letters)) (sym e)
-
--- a number that is none of those below n, as the last arm of a match knows it
-abbrev pub NoneBelow : ℕ → ℕ → Type 0
-NoneBelow word zero = Unit {0}
-NoneBelow word (suc n) = NoneBelow word n × (word ≡ n → ⊥)
-
-none-below : (word n : ℕ) → NoneBelow word n → n ≤ word
-none-below word zero none = omega arith
-none-below word (suc n) none = next (none-below word n (none .0)) (none .1)
-  where
-    next : n ≤ word → (word ≡ n → ⊥) → suc n ≤ word
-    next l e = omega arith
-
-pub the-last : (word n : ℕ) → word < suc n → NoneBelow word n → word ≡ n
-the-last word n h none = let l = none-below word n none in omega arith

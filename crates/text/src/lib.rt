@@ -9,6 +9,7 @@ ghost use Rattle.program.specs.Vocabulary.{words, same, wordOf, numbered};
 ghost use Rattle.program.specs.Lines.{unknown as unknownLine, lineFrom, lineOf};
 ghost use Rattle.text.specs.Places.{part, Within, atCrlf, recordEnd, fieldEnd, saidBehind, numberOf, writtenBehind};
 use program::Line;
+use program::WORDS;
 
 const COMMA: u8 = 44;
 
@@ -19,8 +20,6 @@ const CR: u8 = 13;
 const LF: u8 = 10;
 
 const DIGIT_ZERO: u8 = 48;
-
-const WORDS: u16 = 11;
 
 // The least and the greatest number of fields behind each word.
 const LEAST: [u16; 11] = [2, 2, 2, 2, 3, 4, 3, 2, 1, 2, 3];

@@ -8,8 +8,8 @@ use borrow.Author.Tests.{ltb-true, leb-true}
 use lib.Dec.{T, eqb, ltb, leb}
 use lib.ListN.{length, getD, take, drop, length-take}
 use lib.Seq.{getD-drop}
-use Rattle.model.specs.Lists.{every, all, firstPlace, filledTo}
-use Rattle.model.proofs.Tests.{is-true, of-true, and-left, and-right, each, all-of, at-place}
+use Rattle.model.specs.Lists.{every, any, all, filledTo}
+use Rattle.model.proofs.Tests.{is-true, of-true, and-left, and-right, each, all-of, at-place, first-place, found-any}
 use Rattle.program.specs.Text.{before, fields, isQuoted, unquoted, said, isNumber, valueOf}
 use Rattle.program.specs.Vocabulary.{Word, vocabulary, words, policyWords, same, wordOf, numbered, _with_to_}
 use Rattle.program.specs.Lines.{mostNumbers, unknown, lineClauses, lineFrom, lineOfFields, lineOf}
@@ -61,17 +61,6 @@ same-length [] (b ∷ w) t = absurd t
 same-length (a ∷ f) [] t = absurd t
 same-length (a ∷ f) (b ∷ w) t = ap suc (same-length f w (and-right (eqb a b) (same f w) t))
 
--- the first place that passes, where it is not past the last
-module _ {A : Type 0} (test : A → Bool) (d : A) where
-  place-passes : (xs : List A) → firstPlace test xs < length xs → T (test (getD xs (firstPlace test xs) d))
-  place-passes [] h = absurd (omega arith)
-  place-passes (x ∷ xs) h = go (test x) refl h (λ l. place-passes xs l)
-    where
-      go : (b : Bool) → test x ≡ b → cond b 0 (suc (firstPlace test xs)) < suc (length xs) → (firstPlace test xs < length xs → T (test (getD xs (firstPlace test xs) d)))
-          → T (test (getD (x ∷ xs) (cond b 0 (suc (firstPlace test xs))) d))
-      go true e l later = of-true (test x) e
-      go false e l later = later (omega arith)
-
 -- the letters of an event's word, and two bytes for each number that it must have
 abbrev sevenAtLeast : Word → Bool
 sevenAtLeast w = leb 7 (length (w .letters) + 2 * w .least)
@@ -88,7 +77,10 @@ event-word word h l =
 -- a field that says the word is as long as the word
 word-length : (f : List ℕ) → wordOf f < words → length f ≡ length (numbered (wordOf f) .letters)
 unfolding wordOf
-word-length f h = same-length f _ (place-passes (λ (w : Word). same f (w .letters)) ("" with 0 to 0) vocabulary h)
+word-length f h = same-length f _ (first-place says vocabulary ("" with 0 to 0) (of-true (any says vocabulary) (found-any says vocabulary h)) .1)
+  where
+    says : Word → Bool
+    says w = same f (w .letters)
 
 -- what the fields of a line that is an event take up
 event-extent : (fs : List (List ℕ)) → policyWords ≤ lineOfFields fs .word → lineOfFields fs .word < words → 8 ≤ extent fs

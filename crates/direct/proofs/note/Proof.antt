@@ -21,25 +21,21 @@ loop-holds c = (c .before .before .pre .1, c .before .before .pre .3, c .before 
 right-at-requires : tie.Need-right-at-requires Inv-loop μ-loop
 right-at-requires c κs = omega (arith, c .before .before .before .before .pre .2)
 
--- src/lib.rt:44:9
 add-i : tie.Need-add-i Inv-loop μ-loop
 add-i c = search needs
 
--- src/lib.rt:46:20
 wide-requires : tie.Need-wide-requires Inv-loop μ-loop
 wide-requires c κs = search needs
 
 slice-write-having : tie.Need-slice-write-having Inv-loop μ-loop
 slice-write-having c = omega (arith, c .wide .ensures, c .before .before .before .before .before .loop .inv .1, right-role (c .before .before .before .before .before .before .before .before .args .rights .now) (c .before .before .before .before .before .before .before .before .pre .0) (c .before .before .before .before .before .loop .i) (omega (arith, c .before .before .before .before .before .before .before .before .pre .2)) (c .before .before .before .right-at .result) (c .before .before .before .right-at .ensures))
 
--- src/lib.rt:42:5
 loop-less : tie.Need-loop-less Inv-loop μ-loop
 loop-less c = search needs
 
 loop-again : tie.Need-loop-again Inv-loop μ-loop
 loop-again c = (search needs, simp length-set (c .before .before .before .before .before .loop .inv .1), said-more (c .before .before .before .before .before .before .before .before .args .rights .now) (c .before .before .before .before .before .before .before .before .args .privilege) (c .before .before .before .before .before .loop .i) (c .wide .result) (c .before .before .before .right-at .result) (c .before .before .before .before .before .loop .having) (c .before .before .before .right-at .ensures) (c .before .if1 .taken) (c .wide .ensures) (omega (arith, c .wide .ensures, c .before .before .before .before .before .loop .inv .1, right-role (c .before .before .before .before .before .before .before .before .args .rights .now) (c .before .before .before .before .before .before .before .before .pre .0) (c .before .before .before .before .before .loop .i) (omega (arith, c .before .before .before .before .before .before .before .before .pre .2)) (c .before .before .before .right-at .result) (c .before .before .before .right-at .ensures))) (c .before .before .before .before .before .loop .inv .2))
 
--- src/lib.rt:42:5
 loop-less-2 : tie.Need-loop-less-2 Inv-loop μ-loop
 loop-less-2 c = search needs
 

@@ -6,7 +6,6 @@ use borrow.Author.Needs.{needs}
 use Rattle.direct.proofs.note_sixteen.Statement.{statement}
 use Rattle.direct.proofs.note_sixteen.Tie as tie
 
--- src/lib.rt:56:24
 mul-is-met : tie.Need-mul-is-met
 mul-is-met c = search needs
 
@@ -16,14 +15,12 @@ is-met-requires c κs = omega (arith, c .before .before .pre .1)
 returns : tie.Need-returns
 returns c = said-sixteen (c .before .before .before .before .args .rights .now) (c .before .before .before .before .args .privilege) (c .before .before .before .before .args .from) (c .before .before .before .before .args .having .now) (sym (c .before .is-met .ensures) ∙ not-true _ (c .if1 .taken)) (c .before .before .before .before .pre .3)
 
--- src/lib.rt:59:35
 add-note : tie.Need-add-note
 add-note c = search needs
 
 note-requires : tie.Need-note-requires
 note-requires c κs = (c .before .before .before .before .before .pre .0, omega arith, c .before .before .before .before .before .pre .1, c .before .before .before .before .before .pre .2, c .before .before .before .before .before .pre .3)
 
--- src/lib.rt:52:1
 same-length : tie.Need-same-length
 same-length c = search needs
 

@@ -18,29 +18,24 @@ abbrev μ-loop : tie.MeasureT-loop
 loop-holds : tie.Need-loop-holds Inv-loop μ-loop
 loop-holds c = (search needs, search needs, said-none (c .before .args .rights .now) (c .before .args .privilege) 256)
 
--- src/lib.rt:70:11
 add-loop : tie.Need-add-loop Inv-loop μ-loop
 add-loop c = search needs
 
--- src/lib.rt:71:44
 slice-aggregate-note-sixteen : tie.Need-slice-aggregate-note-sixteen Inv-loop μ-loop
 slice-aggregate-note-sixteen c = search needs
 
 note-sixteen-requires : tie.Need-note-sixteen-requires Inv-loop μ-loop
 note-sixteen-requires c κs = (c .before .before .before .before .pre, omega arith, c .before .before .loop .inv .1, c .before .before .loop .inv .2)
 
--- src/lib.rt:72:9
 add-i : tie.Need-add-i Inv-loop μ-loop
 add-i c = search needs
 
--- src/lib.rt:70:5
 loop-less : tie.Need-loop-less Inv-loop μ-loop
 loop-less c = search needs
 
 loop-again : tie.Need-loop-again Inv-loop μ-loop
 loop-again c = (omega arith, search needs, c .before .note-sixteen .ensures)
 
--- src/lib.rt:74:35
 slice-aggregate-note : tie.Need-slice-aggregate-note Inv-loop μ-loop
 slice-aggregate-note c = search needs
 

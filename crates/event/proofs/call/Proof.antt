@@ -1,5 +1,6 @@
+use Rattle.model.proofs.Tests.{the-last}
 use Rattle.inner.specs.Lent.{lent}
-use Rattle.event.proofs.Events.{answers-line, last-word}
+use Rattle.event.proofs.Events.{answers-line}
 use borrow.Author.Needs.{needs}
 use Rattle.event.proofs.call.Statement.{statement}
 use Rattle.event.proofs.call.Tie as tie
@@ -134,7 +135,7 @@ same-length-8 : tie.Need-same-length-8
 same-length-8 c = search needs
 
 returns-8 : tie.Need-returns-8
-returns-8 c = answers-line (lent (c .before .before .before .before .before .before .before .before .args .rules .now) (c .before .before .before .before .before .before .before .before .args .kinds .now) (c .before .before .before .before .before .before .before .before .args .rights .now)) (c .before .before .before .before .before .before .before .before .args .state .now) _ (c .before .before .before .before .before .before .before .before .args .line) (c .effective .result) 10 (last-word _ (c .before .before .before .before .before .before .before .before .pre .1) (c .before .before .before .before .before .before .before .before .pre .2) (c .before .before .match .rest .0 .0 .0 .0 .0 .0 .1) (c .before .before .match .rest .0 .0 .0 .0 .0 .1) (c .before .before .match .rest .0 .0 .0 .0 .1) (c .before .before .match .rest .0 .0 .0 .1) (c .before .before .match .rest .0 .0 .1) (c .before .before .match .rest .0 .1) (c .before .before .match .rest .1)) (c .effective .ensures)
+returns-8 c = answers-line (lent (c .before .before .before .before .before .before .before .before .args .rules .now) (c .before .before .before .before .before .before .before .before .args .kinds .now) (c .before .before .before .before .before .before .before .before .args .rights .now)) (c .before .before .before .before .before .before .before .before .args .state .now) _ (c .before .before .before .before .before .before .before .before .args .line) (c .effective .result) 10 (the-last _ 3 7 (c .before .before .before .before .before .before .before .before .pre .1) (c .before .before .before .before .before .before .before .before .pre .2) (c .before .before .match .rest)) (c .effective .ensures)
 
 pub call-spec : {M : Type 1} → statement M
 call-spec =

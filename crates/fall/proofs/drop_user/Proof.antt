@@ -7,9 +7,9 @@ use native.Mathlib.Omega.{arith}
 use Rattle.model.specs.Layout.{decode, rowCount}
 use Rattle.model.specs.Calls.{ofUser}
 use Rattle.model.specs.declared.Row.{Row}
-use Rattle.fall.specs.Changes.{Closed, Left}
-use Rattle.fall.proofs.Form.{Formed, formed, sized}
-use Rattle.fall.specs.Changes.{Swept}
+use Rattle.table.proofs.Entries.{sized}
+use Rattle.fall.specs.Changes.{Swept, Closed, Left}
+use Rattle.fall.proofs.Form.{Formed, formed}
 use Rattle.fall.proofs.Swept.{swept-none, swept-more, swept-sized, swept-closed, left-without}
 use borrow.Author.Needs.{needs}
 use Rattle.fall.proofs.drop_user.Statement.{statement}
@@ -37,7 +37,7 @@ judge-user-requires : tie.Need-judge-user-requires Inv-loop μ-loop
 judge-user-requires c κs =
     let f : Formed (c .before .before .before .before .before .before .args .state .now) = formed (c .before .before .before .before .before .before .args .state .now) (c .before .before .before .before .before .before .pre) in
     let e : c .before .before .loop .i < 256 = omega (arith, c .before .before .before .wide .ensures, f .rows) in
-    (swept-sized _ (c .before .before .before .before .before .before .args .state .now) (c .before .before .loop .state) (c .before .before .loop .i) (c .before .before .loop .w) (sized (c .before .before .before .before .before .before .args .state .now) f) (omega arith) (c .before .before .loop .inv .1), c .before .before .loop .inv .1 .within, e)
+    (swept-sized _ (c .before .before .before .before .before .before .args .state .now) (c .before .before .loop .state) (c .before .before .loop .i) (c .before .before .loop .w) (sized (c .before .before .before .before .before .before .args .state .now) (c .before .before .before .before .before .before .pre)) (omega arith) (c .before .before .loop .inv .1), c .before .before .loop .inv .1 .within, e)
 
 add-i : tie.Need-add-i Inv-loop μ-loop
 add-i c = search needs

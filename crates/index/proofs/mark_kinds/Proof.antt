@@ -22,7 +22,6 @@ abbrev μ-loop : tie.MeasureT-loop
 shared-slice-read-wide : tie.Need-shared-slice-read-wide Inv-loop μ-loop
 shared-slice-read-wide c = omega (arith, c .before .before .before .pre .0 .sized .size)
 
--- src/lib.rt:218:9
 wide-requires : tie.Need-wide-requires Inv-loop μ-loop
 wide-requires c κs = search needs
 
@@ -33,11 +32,9 @@ loop-holds c = (search needs, refl, c .before .before .before .before .pre .1)
 certificate-at-requires : tie.Need-certificate-at-requires Inv-loop μ-loop
 certificate-at-requires c κs = (c .before .before .before .before .before .before .pre .0 .sized .size, omega (arith, c .before .before .wide .ensures, c .before .before .before .before .before .before .pre .0 .sized .certificates))
 
--- src/lib.rt:222:9
 add-j : tie.Need-add-j Inv-loop μ-loop
 add-j c = search needs
 
--- src/lib.rt:224:40
 wide-requires-2 : tie.Need-wide-requires-2 Inv-loop μ-loop
 wide-requires-2 c κs = search needs
 

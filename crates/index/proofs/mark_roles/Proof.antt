@@ -23,7 +23,6 @@ abbrev μ-loop : tie.MeasureT-loop
 shared-slice-read-wide : tie.Need-shared-slice-read-wide Inv-loop μ-loop
 shared-slice-read-wide c = omega (arith, c .before .before .before .pre .0 .sized .size)
 
--- src/lib.rt:202:9
 wide-requires : tie.Need-wide-requires Inv-loop μ-loop
 wide-requires c κs = search needs
 
@@ -34,11 +33,9 @@ loop-holds c = (search needs, refl, subst⁻¹ (λ (l : List ℕ). Own (c .befor
 row-at-requires : tie.Need-row-at-requires Inv-loop μ-loop
 row-at-requires c κs = (c .before .before .before .before .before .before .pre .0 .sized .size, omega (arith, c .before .before .wide .ensures, c .before .before .before .before .before .before .pre .0 .sized .rows))
 
--- src/lib.rt:206:9
 add-i : tie.Need-add-i Inv-loop μ-loop
 add-i c = search needs
 
--- src/lib.rt:208:32
 wide-requires-2 : tie.Need-wide-requires-2 Inv-loop μ-loop
 wide-requires-2 c κs = search needs
 

@@ -6,15 +6,12 @@ use borrow.Author.Needs.{needs}
 use Rattle.index.proofs.rule_holds.Statement.{statement}
 use Rattle.index.proofs.rule_holds.Tie as tie
 
--- src/lib.rt:144:26
 wide-requires : tie.Need-wide-requires
 wide-requires c κs = search needs
 
--- src/lib.rt:144:9
 least-requires : tie.Need-least-requires
 least-requires c κs = search needs
 
--- src/lib.rt:145:5
 all-conditions-hold-requires : tie.Need-all-conditions-hold-requires
 all-conditions-hold-requires c κs = search needs
 

@@ -1,3 +1,4 @@
+use mathlib.Core.Path.{refl}
 use Rattle.inner.proofs.Clearing.{fresh-zeros}
 use borrow.Author.Needs.{needs}
 use Rattle.inner.proofs.fresh.Statement.{statement}
@@ -6,14 +7,11 @@ use Rattle.inner.proofs.fresh.Tie as tie
 zero-requires : tie.Need-zero-requires
 zero-requires c κs = search needs
 
-refused-requires : tie.Need-refused-requires
-refused-requires c κs = search needs
-
 same-length : tie.Need-same-length
 same-length c = search needs
 
 returns : tie.Need-returns
-returns c = fresh-zeros (c .before .before .before .before .before .before .args .state .now) _ (c .refused .result) (c .refused .ensures) (c .before .before .before .before .before .before .pre) (c .before .before .before .zero .ensures)
+returns c = fresh-zeros (c .before .before .before .before .before .args .state .now) _ _ (refl, refl) (c .before .before .before .before .before .pre) (c .before .before .zero .ensures)
 
 pub fresh-spec : {M : Type 1} → statement M
-fresh-spec = tie.close (tie.spec zero-requires refused-requires same-length returns)
+fresh-spec = tie.close (tie.spec zero-requires same-length returns)

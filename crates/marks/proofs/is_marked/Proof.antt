@@ -5,8 +5,6 @@ use Rattle.marks.specs.Marks.{marked}
 use borrow.Author.Needs.{needs}
 use Rattle.marks.proofs.is_marked.Statement.{statement}
 use Rattle.marks.proofs.is_marked.Tie as tie
-use Rattle.marks.proofs.is_marked.Reads as reads
-use Rattle.marks.proofs.is_marked.Lts as lts
 
 mul-word : tie.Need-mul-word
 mul-word c = search needs

@@ -8,8 +8,6 @@ use Rattle.marks.proofs.Bits.{shifted, or-fits, set-marked}
 use borrow.Author.Needs.{needs}
 use Rattle.marks.proofs.mark.Statement.{statement}
 use Rattle.marks.proofs.mark.Tie as tie
-use Rattle.marks.proofs.mark.Reads as reads
-use Rattle.marks.proofs.mark.Lts as lts
 
 mul-word : tie.Need-mul-word
 mul-word c = search needs

@@ -4,7 +4,6 @@ use borrow.Author.Needs.{needs}
 use Rattle.policy.proofs.condition_fits.Statement.{statement}
 use Rattle.policy.proofs.condition_fits.Tie as tie
 
--- src/lib.rt:54:12
 end-of-kinds-requires : tie.Need-end-of-kinds-requires
 end-of-kinds-requires c κs = search needs
 

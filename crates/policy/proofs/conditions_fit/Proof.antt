@@ -32,27 +32,21 @@ abbrev μ-loop : tie.MeasureT-loop
 loop-holds : tie.Need-loop-holds Inv-loop μ-loop
 loop-holds c = (search needs, refl)
 
--- src/lib.rt:93:17
 mul-c : tie.Need-mul-c Inv-loop μ-loop
 mul-c c = search needs
 
--- src/lib.rt:93:17
 array-read-c : tie.Need-array-read-c Inv-loop μ-loop
 array-read-c c = search needs
 
--- src/lib.rt:94:32
 condition-fits-requires : tie.Need-condition-fits-requires Inv-loop μ-loop
 condition-fits-requires c κs = search needs
 
--- src/lib.rt:94:67
 mul-wrong : tie.Need-mul-wrong Inv-loop μ-loop
 mul-wrong c = search needs
 
--- src/lib.rt:94:67
 add-wrong : tie.Need-add-wrong Inv-loop μ-loop
 add-wrong c = search needs
 
--- src/lib.rt:94:58
 mul-wrong-2 : tie.Need-mul-wrong-2 Inv-loop μ-loop
 mul-wrong-2 c = search needs
 

@@ -37,11 +37,9 @@ returns-6 : tie.Need-returns-6
 unfolding policyClauses policyOf
 returns-6 c = fails (policyClauses (lent (c .before .before .before .before .before .before .before .before .before .args .rules .now) (c .before .before .before .before .before .before .before .before .before .args .kinds .now) (c .before .before .before .before .before .before .before .before .before .args .rights .now))) (later (later (later (later (later (here (ap (λ (n : ℕ). leb n 2048) (length-entries rightFrom 2 (c .before .before .before .before .before .before .before .before .before .args .rights .now) (length (c .before .before .before .before .before .before .before .before .before .args .rights .now) / 2)) ∙ lt-leb _ _ (c .if6 .taken))))))))
 
--- src/lib.rt:228:20
 counting-requires : tie.Need-counting-requires
 counting-requires c κs = search needs
 
--- src/lib.rt:229:33
 slice-aggregate-rules-fit : tie.Need-slice-aggregate-rules-fit
 slice-aggregate-rules-fit c = search needs
 
@@ -52,7 +50,6 @@ returns-7 : tie.Need-returns-7
 unfolding policyClauses policyOf
 returns-7 c = fails (policyClauses (lent (c .before .before .before .before .before .before .before .before .before .before .before .before .before .args .rules .now) (c .before .before .before .before .before .before .before .before .before .before .before .before .before .args .kinds .now) (c .before .before .before .before .before .before .before .before .before .before .before .before .before .args .rights .now))) (later (later (later (later (later (later (here (rules-fit-same (policyOf (lent (c .before .before .before .before .before .before .before .before .before .before .before .before .before .args .rules .now) (c .before .before .before .before .before .before .before .before .before .before .before .before .before .args .kinds .now) (c .before .before .before .before .before .before .before .before .before .before .before .before .before .args .rights .now))) (kindsOnly (c .before .before .before .before .before .before .before .before .before .before .before .before .before .args .kinds .now)) refl (policyOf (lent (c .before .before .before .before .before .before .before .before .before .before .before .before .before .args .rules .now) (c .before .before .before .before .before .before .before .before .before .before .before .before .before .args .kinds .now) (c .before .before .before .before .before .before .before .before .before .before .before .before .before .args .rights .now)) .rules) ∙ sym (c .before .rules-fit .ensures) ∙ not-true _ (c .if7 .taken)))))))))
 
--- src/lib.rt:232:26
 slice-aggregate-kinds-fit : tie.Need-slice-aggregate-kinds-fit
 slice-aggregate-kinds-fit c = search needs
 

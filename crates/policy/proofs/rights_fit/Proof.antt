@@ -17,22 +17,18 @@ Inv-loop rights limits n i₀ i = (i ≤ length rights / 2) × (firstFit rights 
 abbrev μ-loop : tie.MeasureT-loop
 μ-loop rights limits n i₀ i = length rights / 2 - i
 
--- src/lib.rt:307:18
 limits-requires : tie.Need-limits-requires Inv-loop μ-loop
 limits-requires c κs = search needs
 
 loop-holds : tie.Need-loop-holds Inv-loop μ-loop
 loop-holds c = (search needs, refl)
 
--- src/lib.rt:310:11
 add-loop : tie.Need-add-loop Inv-loop μ-loop
 add-loop c = search needs
 
--- src/lib.rt:311:32
 slice-aggregate-over-limits : tie.Need-slice-aggregate-over-limits Inv-loop μ-loop
 slice-aggregate-over-limits c = search needs
 
--- src/lib.rt:311:41
 mul-over-limits : tie.Need-mul-over-limits Inv-loop μ-loop
 mul-over-limits c = search needs
 
@@ -42,11 +38,9 @@ returns c =
     let e : c .before .before .before .before .loop .i + 16 + (length (c .before .before .before .before .before .before .before .args .rights .now) / 2 - (c .before .before .before .before .loop .i + 16)) ≡ length (c .before .before .before .before .before .before .before .args .rights .now) / 2 = omega arith in
     sym (ap (firstFit (c .before .before .before .before .before .before .before .args .rights .now)) (sym e) ∙ unfit-stays (c .before .before .before .before .before .before .before .args .rights .now) (c .before .before .before .before .loop .i + 16) (length (c .before .before .before .before .before .before .before .args .rights .now) / 2 - (c .before .before .before .before .loop .i + 16)) (fit-sixteen (c .before .before .before .before .before .before .before .args .rights .now) (c .before .before .before .before .before .limits .result) (c .before .before .before .before .before .limits .ensures) (c .before .before .before .before .loop .i) ∙ (λ j. c .before .before .before .before .loop .inv .1 j && (sym (c .before .over-limits .ensures) ∙ ne-eqb (c .before .over-limits .result) 0 (c .if1 .taken)) j)))
 
--- src/lib.rt:314:9
 add-i : tie.Need-add-i Inv-loop μ-loop
 add-i c = search needs
 
--- src/lib.rt:310:5
 loop-less : tie.Need-loop-less Inv-loop μ-loop
 loop-less c = search needs
 

@@ -17,31 +17,26 @@ abbrev fits : ℕ → Bool
 fits q = ltb q 256
 
 abbrev Inv-loop : tie.InvT-loop
-Inv-loop counting n roles over₀ j₀ over j = (j ≤ 4) × (eqb over 0 ≡ mixed fits n (take j roles))
+Inv-loop counting n prerequisites over₀ j₀ over j = (j ≤ 4) × (eqb over 0 ≡ mixed fits n (take j prerequisites))
 
 abbrev μ-loop : tie.MeasureT-loop
-μ-loop counting n roles over₀ j₀ over j = 4 - j
+μ-loop counting n prerequisites over₀ j₀ over j = 4 - j
 
 loop-holds : tie.Need-loop-holds Inv-loop μ-loop
 loop-holds c = (search needs, refl)
 
--- src/lib.rt:146:17
 mul-q : tie.Need-mul-q Inv-loop μ-loop
 mul-q c = search needs
 
--- src/lib.rt:146:17
 array-read-q : tie.Need-array-read-q Inv-loop μ-loop
 array-read-q c = search needs
 
--- src/lib.rt:147:52
 mul-wrong : tie.Need-mul-wrong Inv-loop μ-loop
 mul-wrong c = search needs
 
--- src/lib.rt:147:52
 add-wrong : tie.Need-add-wrong Inv-loop μ-loop
 add-wrong c = search needs
 
--- src/lib.rt:147:43
 mul-wrong-2 : tie.Need-mul-wrong-2 Inv-loop μ-loop
 mul-wrong-2 c = search needs
 
@@ -51,11 +46,9 @@ shared-slice-read-wrong c = omega (arith, c .before .before .before .before .pre
 wrong-requires : tie.Need-wrong-requires Inv-loop μ-loop
 wrong-requires c κs = beyond-not-zero _
 
--- src/lib.rt:148:9
 add-j : tie.Need-add-j Inv-loop μ-loop
 add-j c = search needs
 
--- src/lib.rt:145:5
 loop-less : tie.Need-loop-less Inv-loop μ-loop
 loop-less c = search needs
 

@@ -13,21 +13,18 @@ use borrow.Author.Needs.{needs}
 use Rattle.query.proofs.effective.Statement.{statement}
 use Rattle.query.proofs.effective.Tie as tie
 
--- src/lib.rt:134:9
 refused-requires : tie.Need-refused-requires
 refused-requires c κs = search needs
 
 returns : tie.Need-returns
 returns c = effective-out (c .before .before .before .before .before .before .args .rules .now) (c .before .before .before .before .before .before .args .kinds .now) (c .before .before .before .before .before .before .args .rights .now) (c .before .before .before .before .before .before .args .state .now) (c .before .before .before .before .before .before .pre) (c .before .before .before .before .before .before .args .user) (c .before .before .before .before .before .before .args .role) (c .before .before .before .before .before .before .args .privilege) (c .refused .result) (c .refused .ensures) (out-of-range (isUser (c .before .before .before .before .before .before .args .user) ∷ isRole (c .before .before .before .before .before .before .args .role) ∷ isPrivilege (c .before .before .before .before .before .before .args .privilege) ∷ []) 0 (le-ltb (c .before .before .before .before .before .before .args .user) 4096 (c .before .if1 .taken)))
 
--- src/lib.rt:137:9
 refused-requires-2 : tie.Need-refused-requires-2
 refused-requires-2 c κs = search needs
 
 returns-2 : tie.Need-returns-2
 returns-2 c = effective-out (c .before .before .before .before .before .before .before .args .rules .now) (c .before .before .before .before .before .before .before .args .kinds .now) (c .before .before .before .before .before .before .before .args .rights .now) (c .before .before .before .before .before .before .before .args .state .now) (c .before .before .before .before .before .before .before .pre) (c .before .before .before .before .before .before .before .args .user) (c .before .before .before .before .before .before .before .args .role) (c .before .before .before .before .before .before .before .args .privilege) (c .refused2 .result) (c .refused2 .ensures) (out-of-range (isUser (c .before .before .before .before .before .before .before .args .user) ∷ isRole (c .before .before .before .before .before .before .before .args .role) ∷ isPrivilege (c .before .before .before .before .before .before .before .args .privilege) ∷ []) 1 (le-ltb (c .before .before .before .before .before .before .before .args .role) 256 (c .before .if2 .taken)))
 
--- src/lib.rt:140:9
 refused-requires-3 : tie.Need-refused-requires-3
 refused-requires-3 c κs = search needs
 
@@ -37,14 +34,12 @@ returns-3 c = effective-out (c .before .before .before .before .before .before .
 shared-slice-read-wide : tie.Need-shared-slice-read-wide
 shared-slice-read-wide c = omega (arith, sound-sized _ (c .before .before .before .before .before .before .before .before .args .state .now) (c .before .before .before .before .before .before .before .before .pre) .size)
 
--- src/lib.rt:142:9
 wide-requires : tie.Need-wide-requires
 wide-requires c κs = search needs
 
 is-active-requires : tie.Need-is-active-requires
 is-active-requires c κs = let z = sound-sized _ (c .before .before .before .before .before .before .before .before .before .args .state .now) (c .before .before .before .before .before .before .before .before .before .pre) in (z .size, omega (arith, z .rows, c .wide .ensures))
 
--- src/lib.rt:144:9
 refused-requires-4 : tie.Need-refused-requires-4
 refused-requires-4 c κs = search needs
 
@@ -54,21 +49,18 @@ returns-4 c = effective-inactive (c .before .before .before .before .before .bef
 roles-having-requires : tie.Need-roles-having-requires
 roles-having-requires c κs = sound-rights (c .before .before .before .before .before .before .before .before .before .before .before .args .rules .now) (c .before .before .before .before .before .before .before .before .before .before .before .args .kinds .now) (c .before .before .before .before .before .before .before .before .before .before .before .args .rights .now) (c .before .before .before .before .before .before .before .before .before .before .before .args .state .now) (c .before .before .before .before .before .before .before .before .before .before .before .pre)
 
--- src/lib.rt:148:11
 wide-requires-2 : tie.Need-wide-requires-2
 wide-requires-2 c κs = search needs
 
 array-write-asked : tie.Need-array-write-asked
 array-write-asked c = omega (arith, c .wide2 .ensures, c .before .before .before .before .before .before .before .if2 .left)
 
--- src/lib.rt:149:52
 slice-aggregate-roles-reach : tie.Need-slice-aggregate-roles-reach
 slice-aggregate-roles-reach c = search needs
 
 roles-reach-requires : tie.Need-roles-reach-requires
 roles-reach-requires c κs = (ready (without-rights (c .before .before .before .before .before .before .before .before .before .before .before .before .before .before .before .args .rules .now) (c .before .before .before .before .before .before .before .before .before .before .before .before .before .before .before .args .kinds .now)) _ (c .before .before .before .roles-having .result) (c .before .before .before .before .before .before .before .before .before .before .before .before .before .before .before .args .state .now) (c .before .before .before .before .before .before .before .before .before .before .before .before .before .before .before .args .user) (c .before .before .before .before .before .before .before .before .before .before .before .before .before .before .before .pre), omega (arith, c .before .before .before .before .before .before .wide .ensures), alone-size (c .before .before .wide2 .result) (omega (arith, c .before .before .wide2 .ensures, c .before .before .before .before .before .before .before .before .before .if2 .left)), alone-closed (c .before .before .wide2 .result) (omega (arith, c .before .before .wide2 .ensures, c .before .before .before .before .before .before .before .before .before .if2 .left)) (c .before .before .before .before .before .before .before .before .before .before .before .before .before .before .before .args .kinds .now))
 
--- src/lib.rt:149:5
 told-requires : tie.Need-told-requires
 told-requires c κs = search needs
 

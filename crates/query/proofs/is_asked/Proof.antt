@@ -8,7 +8,6 @@ use borrow.Author.Needs.{needs}
 use Rattle.query.proofs.is_asked.Statement.{statement}
 use Rattle.query.proofs.is_asked.Tie as tie
 
--- src/lib.rt:60:22
 wide-requires : tie.Need-wide-requires
 wide-requires c κs = search needs
 

@@ -9,11 +9,9 @@ use borrow.Author.Needs.{needs}
 use Rattle.rests.proofs.ask_condition.Statement.{statement}
 use Rattle.rests.proofs.ask_condition.Tie as tie
 
--- src/lib.rt:133:8
 ask-known-requires : tie.Need-ask-known-requires
 ask-known-requires c κs = search needs
 
--- src/lib.rt:134:9
 same-length : tie.Need-same-length
 same-length c = search needs
 
@@ -23,7 +21,6 @@ returns c = c .before .before .before .ask-known .ensures .known (c .if1 .taken)
 ask-kind-requires : tie.Need-ask-kind-requires
 ask-kind-requires c κs = let u = c .before .before .before .before .ask-known .ensures .unknown (c .before .if1 .left) in (ap length (u .0) ∙ c .before .before .before .before .before .before .before .before .pre .0, u .1, u .2, subst⁻¹ (λ (x : List Bool). Closed (c .before .before .before .before .before .before .before .before .args .kinds .now) x) (u .0) (c .before .before .before .before .before .before .before .before .pre .1))
 
--- src/lib.rt:129:1
 same-length-2 : tie.Need-same-length-2
 same-length-2 c = search needs
 

@@ -5,26 +5,21 @@ use borrow.Author.Needs.{needs}
 use Rattle.rests.proofs.ask_known.Statement.{statement}
 use Rattle.rests.proofs.ask_known.Tie as tie
 
--- src/lib.rt:101:15
 wide-requires : tie.Need-wide-requires
 wide-requires c κs = search needs
 
--- src/lib.rt:101:9
 slice-write-asked : tie.Need-slice-write-asked
 slice-write-asked c = search needs
 
--- src/lib.rt:102:9
 same-length : tie.Need-same-length
 same-length c = search needs
 
 returns : tie.Need-returns
 returns c = known-role (c .before .before .before .args .asked .now) (c .before .before .before .args .c) (c .wide .result) (c .before .before .before .pre) (c .wide .ensures) (c .before .if1 .taken)
 
--- src/lib.rt:105:22
 wide-requires-2 : tie.Need-wide-requires-2
 wide-requires-2 c κs = search needs
 
--- src/lib.rt:105:16
 slice-read-result : tie.Need-slice-read-result
 slice-read-result c = search needs
 

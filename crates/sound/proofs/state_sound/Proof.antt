@@ -7,9 +7,9 @@ use Rattle.model.specs.Lists.{every, allOverEarlier}
 use Rattle.model.specs.Layout.{decode, policyOf}
 use Rattle.model.specs.Sound.{wellFormed, certificateSound, rowSound, soundRecords, sound}
 use Rattle.table.specs.Entries.{without-rights, worldAt}
+use Rattle.table.proofs.Entries.{sized}
 use Rattle.policy.specs.Lent.{kindsOnly}
 use Rattle.policy.proofs.Clauses.{here, later, fails, passes}
-use Rattle.sound.proofs.Parts.{sized}
 use Rattle.sound.proofs.Ranges.{certificates-range, few-kinds}
 use Rattle.sound.proofs.Rights.{certificates-same}
 use borrow.Author.Needs.{needs}

@@ -1,5 +1,7 @@
 use mathlib.Core.Path.{_∙_}
-use Rattle.text.proofs.Letters.{at-number, the-last}
+use native.Mathlib.Omega.{arith}
+use Rattle.model.proofs.Tests.{the-last}
+use Rattle.text.proofs.Letters.{at-number}
 use borrow.Author.Needs.{needs}
 use Rattle.text.proofs.says_word.Statement.{statement}
 use Rattle.text.proofs.says_word.Tie as tie
@@ -101,7 +103,7 @@ returns-10 : tie.Need-returns-10
 returns-10 c = c .says10 .ensures ∙ at-number (c .before .before .before .before .args .field .now) 9 (c .before .before .match .keys10)
 
 returns-11 : tie.Need-returns-11
-returns-11 c = c .says11 .ensures ∙ at-number (c .before .before .before .before .args .field .now) 10 (the-last _ 10 (c .before .before .before .before .pre) (c .before .before .match .rest))
+returns-11 c = c .says11 .ensures ∙ at-number (c .before .before .before .before .args .field .now) 10 (the-last _ 0 10 (omega arith) (c .before .before .before .before .pre) (c .before .before .match .rest))
 
 pub says-word-spec : {M : Type 1} → statement M
 says-word-spec =

@@ -9,6 +9,6 @@ use Rattle.model.specs.Layout.{policyOf}
 use Rattle.model.specs.Sound.{soundPolicy, sound}
 
 -- the policy has been judged, and the state is sound under it
-pub record Standing (t : Tables) (s : List ℕ) (judged : Bool) : Type 0 where
+pub record Answerable (t : Tables) (s : List ℕ) (judged : Bool) : Type 0 where
   pub policy : judged ≡ soundPolicy t
   pub state : T (sound (policyOf t) s)
