@@ -15,7 +15,7 @@ use Rattle.model.specs.Left.{keep, sweep, left}
 use Rattle.model.specs.declared.Row.{Row}
 use Rattle.model.proofs.Sweep.{left-last}
 use Rattle.model.proofs.Tests.{lt-or-ge}
-use Rattle.table.specs.Entries.{rowAt, firstRows, without-rights, worldAt, Sized}
+use Rattle.table.specs.Entries.{rowAt, firstRows, withoutRights, worldAt, Sized}
 use Rattle.table.proofs.Entries.{rows-more, length-entries}
 use Rattle.model.specs.declared.Certificate.{Certificate}
 use Rattle.marks.specs.Marks.{Marked}
@@ -45,7 +45,7 @@ swept-certificates ok s₀ s i w h p = certificates-same s₀ s (p .size) (λ k 
 pub swept-world : (rules kinds : List ℕ) (ok : List Row → Row → Bool) (s₀ s : List ℕ) (i w : ℕ) → i ≤ 256 → Swept ok s₀ s i w → worldAt rules kinds s ≡ worldAt rules kinds s₀
 unfolding decode
 swept-world rules kinds ok s₀ s i w h p =
-    λ j. record { policy = policyOf (without-rights rules kinds); facts = facts-same s₀ s (p .size) (λ k l. p .below k (omega arith)) j; certificates = swept-certificates ok s₀ s i w h p j }
+    λ j. record { policy = policyOf (withoutRights rules kinds); facts = facts-same s₀ s (p .size) (λ k l. p .below k (omega arith)) j; certificates = swept-certificates ok s₀ s i w h p j }
 
 -- a row moved behind the rows kept
 pub kept-rows : (s s′ : List ℕ) (w i : ℕ) → w ≤ i → i < 256 → Moved s s′ (rowPlace i) (rowPlace w) 3 → firstRows s′ (w + 1) ≡ firstRows s w ++ (rowAt s i ∷ [])

@@ -17,7 +17,7 @@ use Rattle.model.specs.declared.Kind.{Kind}
 use Rattle.model.specs.declared.Row.{Row}
 use Rattle.model.specs.declared.Certificate.{Certificate}
 use Rattle.model.proofs.Tests.{lt-or-ge}
-use Rattle.table.specs.Entries.{without-rights, worldAt}
+use Rattle.table.specs.Entries.{withoutRights, worldAt}
 use Rattle.table.proofs.Worlds.{take-least}
 use Rattle.index.specs.Marked.{roleMarked, holdsBy, allHoldBy, supportedBy, satisfiedBy}
 
@@ -71,9 +71,9 @@ first-by has kinds s n m cs r size least h =
 module _ (has : ℕ → Bool) (rules kinds s : List ℕ) where
   any-rules : (cs : List ℕ) → allHoldBy has (worldAt [] kinds s) cs ≡ allHoldBy has (worldAt rules kinds s) cs
   unfolding policyOf
-  any-rules cs = λ i. all (λ (c : ℕ). by-same has (policyOf (without-rights [] kinds)) (policyOf (without-rights rules kinds)) (decode s) refl (meant c) i) cs
+  any-rules cs = λ i. all (λ (c : ℕ). by-same has (policyOf (withoutRights [] kinds)) (policyOf (withoutRights rules kinds)) (decode s) refl (meant c) i) cs
 
-  pub membership-by : (n : ℕ) (rule : Rule) (u q i : ℕ) (r : Bool) → rule ≡ ruleNumbered (policyOf (without-rights rules [])) i → length (rule .conditions) ≡ 8 → n ≡ min (rule .m) 8
+  pub membership-by : (n : ℕ) (rule : Rule) (u q i : ℕ) (r : Bool) → rule ≡ ruleNumbered (policyOf (withoutRights rules [])) i → length (rule .conditions) ≡ 8 → n ≡ min (rule .m) 8
       → r ≡ allHoldBy has (worldAt [] kinds s) (take n (rule .conditions)) → r ≡ supportedBy has (worldAt rules kinds s) (record { user = u; role = q; rule = i })
   unfolding supportedBy policyOf
   membership-by n rule u q i r e size least h = first-by has kinds s n (rule .m) (rule .conditions) r size least h ∙ any-rules (membership rule) ∙ ap (λ (x : Rule). allHoldBy has (worldAt rules kinds s) (membership x)) e

@@ -10,7 +10,7 @@ ghost use Rattle.model.specs.Lists.{all};
 ghost use Rattle.model.specs.Limits.{users, mostKinds};
 ghost use Rattle.model.specs.Layout.{decode, policyOf, factNumbers};
 ghost use Rattle.model.specs.Conditions.{meant, activating, prerequisiteRoles, kindNumbered};
-ghost use Rattle.table.specs.Entries.{worldAt, without-rights, Sized};
+ghost use Rattle.table.specs.Entries.{worldAt, withoutRights, Sized};
 ghost use Rattle.index.specs.Marked.{Room, block, roleMarked, holdsBy, allHoldBy, supportedBy};
 ghost use Rattle.index.specs.Indexed.{InRange, baseOf, Numbered, Indexed, Own};
 use model::CERTIFICATE_COUNT;
@@ -55,7 +55,7 @@ fn all_marked(words: &[u16], base: usize, roles: [u16; 4], n: usize) -> bool
 // A certificate of the kind stands, and the kind's prerequisite roles are marked.
 fn kind_holds(kinds: &[u16], words: &[u16], base: usize, kind: u16) -> bool
     requires { ⌜ Room (now words) base × (kind < mostKinds) ⌝ }
-    ensures { λ r. ⌜ r ≡ (block (now (words .entry)) base (256 + kind) && all (roleMarked (block (now (words .entry)) base)) (prerequisiteRoles (kindNumbered (policyOf (without-rights [] (now (kinds .entry)))) kind))) ⌝ }
+    ensures { λ r. ⌜ r ≡ (block (now (words .entry)) base (256 + kind) && all (roleMarked (block (now (words .entry)) base)) (prerequisiteRoles (kindNumbered (policyOf (withoutRights [] (now (kinds .entry)))) kind))) ⌝ }
 {
     if !marks::is_marked(words, base + (KINDS + table::wide(kind))) {
         return false;

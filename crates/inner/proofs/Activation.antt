@@ -17,7 +17,7 @@ use Rattle.model.specs.Words.{Sound, FirstApplies, none, here, later}
 use Rattle.model.specs.declared.Answer.{Answer}
 use Rattle.model.specs.declared.Rule.{Rule}
 use Rattle.model.proofs.Tests.{of-true, of-false, found-any, not-found}
-use Rattle.table.specs.Entries.{worldAt, without-rights}
+use Rattle.table.specs.Entries.{worldAt, withoutRights}
 use Rattle.table.proofs.Entries.{length-entries}
 use Rattle.table.proofs.Worlds.{satisfied-same}
 use Rattle.index.specs.Marked.{block, satisfiedBy}
@@ -28,11 +28,11 @@ use Rattle.inner.proofs.Codes.{own-refuses, own-accepts, out-of-range, 
 
 -- the lowest rule by the user's own marks is the lowest that is satisfied
 pub lowest-own : (rules kinds s : List ℕ) (u q i : ℕ) (words : List ℕ) → Own u words (decode s .rows) (decode s .certificates)
-    → i ≡ firstPlace (satisfiedBy (block words 0) (worldAt rules kinds s) q) (policyOf (without-rights rules kinds) .rules)
-    → i ≡ firstPlace (satisfied (worldAt rules kinds s) (decode s .rows) u q) (policyOf (without-rights rules kinds) .rules)
+    → i ≡ firstPlace (satisfiedBy (block words 0) (worldAt rules kinds s) q) (policyOf (withoutRights rules kinds) .rules)
+    → i ≡ firstPlace (satisfied (worldAt rules kinds s) (decode s .rows) u q) (policyOf (withoutRights rules kinds) .rules)
 lowest-own rules kinds s u q i words x h =
     h
-    ∙ (λ j. firstPlace (λ (r : Rule). satisfied-own u words (decode s .rows) (worldAt rules kinds s) x q r j) (policyOf (without-rights rules kinds) .rules))
+    ∙ (λ j. firstPlace (λ (r : Rule). satisfied-own u words (decode s .rows) (worldAt rules kinds s) x q r j) (policyOf (withoutRights rules kinds) .rules))
 
 module _ (rules kinds rights s : List ℕ) (h : Sound (lent rules kinds rights) s) (u q : ℕ) where
   refused : (r : Answer) (code : ℕ) → 0 < code → (r .code ≡ code) × (r .second ≡ 0) → FirstApplies (activateOn (given (lent rules kinds rights) s []) u q .refusals) code → Answers (lent rules kinds rights) s (activate u q) r s
@@ -55,14 +55,14 @@ module _ (rules kinds rights s : List ℕ) (h : Sound (lent rules kinds rights) 
     unfolding activateOn
     is-held r c e = refused r 4 (omega arith) c (later range (here (of-true (active (decode s .rows) u q) e)))
 
-    module _ (new : active (decode s .rows) u q ≡ false) (i : ℕ) (lowest : i ≡ firstPlace (satisfied (worldAt rules kinds s) (decode s .rows) u q) (policyOf (without-rights rules kinds) .rules)) where
+    module _ (new : active (decode s .rows) u q ≡ false) (i : ℕ) (lowest : i ≡ firstPlace (satisfied (worldAt rules kinds s) (decode s .rows) u q) (policyOf (withoutRights rules kinds) .rules)) where
       rule-count : length (policyOf (lent rules kinds rights) .rules) ≡ length rules / 11
       unfolding policyOf
       rule-count = length-entries ruleFrom 11 rules (length rules / 11)
 
       lowest-same : i ≡ lowestRule (policyOf (lent rules kinds rights)) (decode s) u q
       unfolding policyOf
-      lowest-same = lowest ∙ (λ j. firstPlace (satisfied-same (policyOf (without-rights rules kinds)) (policyOf (lent rules kinds rights)) (decode s) refl j (decode s .rows) u q) (policyOf (lent rules kinds rights) .rules))
+      lowest-same = lowest ∙ (λ j. firstPlace (satisfied-same (policyOf (withoutRights rules kinds)) (policyOf (lent rules kinds rights)) (decode s) refl j (decode s .rows) u q) (policyOf (lent rules kinds rights) .rules))
 
       pub no-rule : (r : Answer) → (r .code ≡ 5) × (r .second ≡ 0) → length rules / 11 ≤ i → Answers (lent rules kinds rights) s (activate u q) r s
       unfolding activateOn

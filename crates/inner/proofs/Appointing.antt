@@ -16,7 +16,7 @@ use Rattle.model.specs.Calls.{appoint, isUser, hasRow, stands, appointOn, cours
 use Rattle.model.specs.Words.{Sound, none, here, later}
 use Rattle.model.specs.declared.Answer.{Answer}
 use Rattle.model.proofs.Tests.{of-true, of-false, found-any, not-found}
-use Rattle.table.specs.Entries.{without-rights}
+use Rattle.table.specs.Entries.{withoutRights}
 use Rattle.inner.specs.Lent.{lent, Answers}
 use Rattle.inner.proofs.Codes.{own-refuses, own-accepts, in-range, found, certificate-length, some-kind}
 
@@ -29,11 +29,11 @@ module _ (rules kinds rights s : List ℕ) (h : Sound (lent rules kinds rights) 
     range : T (not (not (every (isUser b ∷ isUser a ∷ hasRow (policyOf (lent rules kinds rights)) k ∷ []))))
     range = in-range (isUser b ∷ isUser a ∷ hasRow (policyOf (lent rules kinds rights)) k ∷ []) (lt→ltb b 4096 in₁, (lt→ltb a 4096 in₂, (some-kind rules kinds rights k in₃, tt)))
 
-    pub appoint-not-in-role : (r : Answer) → (r .code ≡ 7) × (r .second ≡ 0) → active (decode s .rows) b (kindNumbered (policyOf (without-rights [] kinds)) k .appointer) ≡ false → Answers (lent rules kinds rights) s (appoint b a k) r s
+    pub appoint-not-in-role : (r : Answer) → (r .code ≡ 7) × (r .second ≡ 0) → active (decode s .rows) b (kindNumbered (policyOf (withoutRights [] kinds)) k .appointer) ≡ false → Answers (lent rules kinds rights) s (appoint b a k) r s
     unfolding courseOf appointOn policyOf
     appoint-not-in-role r z e = own-refuses (lent rules kinds rights) s [] h (appoint b a k) _ refl r 7 (omega arith) z (later range (here (of-false _ e)))
 
-    module _ (in-role : active (decode s .rows) b (kindNumbered (policyOf (without-rights [] kinds)) k .appointer) ≡ true) (j : ℕ) (at : j ≡ firstPlace (sameCertificate (record { appointee = a; kind = k; appointer = b })) (decode s .certificates)) where
+    module _ (in-role : active (decode s .rows) b (kindNumbered (policyOf (withoutRights [] kinds)) k .appointer) ≡ true) (j : ℕ) (at : j ≡ firstPlace (sameCertificate (record { appointee = a; kind = k; appointer = b })) (decode s .certificates)) where
       pub appoint-stands : (r : Answer) → (r .code ≡ 8) × (r .second ≡ 0) → j < certificateCount s → Answers (lent rules kinds rights) s (appoint b a k) r s
       unfolding courseOf appointOn policyOf
       appoint-stands r z l =

@@ -9,7 +9,7 @@ ghost use Rattle.model.specs.Layout.{decode, policyOf};
 ghost use Rattle.model.specs.Sound.{sameCertificate};
 ghost use Rattle.model.specs.Calls.{fresh as freshCall, activate as activateCall, appoint as appointCall};
 ghost use Rattle.model.specs.Words.{Sound};
-ghost use Rattle.table.specs.Entries.{worldAt, without-rights, Sized};
+ghost use Rattle.table.specs.Entries.{worldAt, withoutRights, Sized};
 ghost use Rattle.index.specs.Marked.{Room, block, satisfiedBy};
 ghost use Rattle.inner.specs.Lent.{lent, Answers};
 use model::Answer;
@@ -33,7 +33,7 @@ pub fn refused(code: u16) -> Answer
 // other roles, so a rule's target is asked before anything else is made ready.
 fn lowest_marked(rules: &[u16], kinds: &[u16], state: &[u16], words: &[u16], role: u16) -> usize
     requires { ⌜ Sized (now state) × Room (now words) 0 ⌝ }
-    ensures { λ r. ⌜ r ≡ firstPlace (satisfiedBy (block (now (words .entry)) 0) (worldAt (now (rules .entry)) (now (kinds .entry)) (now (state .entry))) role) (policyOf (without-rights (now (rules .entry)) (now (kinds .entry))) .rules) ⌝ }
+    ensures { λ r. ⌜ r ≡ firstPlace (satisfiedBy (block (now (words .entry)) 0) (worldAt (now (rules .entry)) (now (kinds .entry)) (now (state .entry))) role) (policyOf (withoutRights (now (rules .entry)) (now (kinds .entry))) .rules) ⌝ }
 {
     let n = rules.len() / RULE_WIDTH;
     let mut i: usize = 0;

@@ -4,10 +4,10 @@ use Prim.Native.Nat.{ℕ}
 use mathlib.Core.List.{List, []}
 use Rattle.model.specs.Records.{Tables, Policy}
 use Rattle.model.specs.Layout.{policyOf}
-use Rattle.table.specs.Entries.{without-rights}
+use Rattle.table.specs.Entries.{withoutRights}
 
 abbrev pub lent : List ℕ → List ℕ → List ℕ → Tables
 lent rules kinds rights = record { rules = rules; kinds = kinds; rights = rights }
 
 abbrev pub kindsOnly : List ℕ → Policy
-kindsOnly kinds = policyOf (without-rights [] kinds)
+kindsOnly kinds = policyOf (withoutRights [] kinds)

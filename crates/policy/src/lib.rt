@@ -11,7 +11,7 @@ ghost use Rattle.model.specs.Limits.{roles, mostKinds};
 ghost use Rattle.model.specs.Layout.{policyOf, rightFrom};
 ghost use Rattle.model.specs.Conditions.{meant};
 ghost use Rattle.model.specs.Sound.{conditionFits, ruleFits, kindFits, rightFits, soundPolicy};
-ghost use Rattle.table.specs.Entries.{entries, ruleAt, kindAt, without-rights};
+ghost use Rattle.table.specs.Entries.{entries, ruleAt, kindAt, withoutRights};
 ghost use Rattle.policy.specs.Lent.{lent, kindsOnly};
 ghost use Rattle.policy.specs.Counting.{Counting, Limits, keeps};
 use model::KIND_WIDTH;
@@ -192,7 +192,7 @@ fn rule_fits(rules: &[u16], kinds: &[u16], counting: &[u16], i: usize) -> bool
 
 fn rules_fit(rules: &[u16], kinds: &[u16], counting: &[u16]) -> bool
     requires { ⌜ (length (now kinds) / 7 ≤ mostKinds) × Counting (now counting) ⌝ }
-    ensures { λ r. ⌜ r ≡ all (ruleFits (kindsOnly (now (kinds .entry)))) (policyOf (without-rights (now (rules .entry)) []) .rules) ⌝ }
+    ensures { λ r. ⌜ r ≡ all (ruleFits (kindsOnly (now (kinds .entry)))) (policyOf (withoutRights (now (rules .entry)) []) .rules) ⌝ }
 {
     let n = rules.len() / RULE_WIDTH;
     let mut i: usize = 0;

@@ -20,7 +20,7 @@ use Rattle.model.specs.declared.Answer.{Answer}
 use Rattle.model.specs.declared.Row.{Row}
 use Rattle.model.proofs.Tests.{of-true, of-false}
 use Rattle.model.proofs.Numbers.{encode-decode, sound-formed}
-use Rattle.table.specs.Entries.{rowAt, firstRows, without-rights}
+use Rattle.table.specs.Entries.{rowAt, firstRows, withoutRights}
 use Rattle.fall.specs.Writes.{Zeroed}
 use Rattle.inner.specs.Lent.{lent, AnswersWith}
 use Rattle.inner.proofs.Codes.{own-refuses, own-accepts, in-range, found, active-now}
@@ -62,12 +62,12 @@ module _ (rules kinds rights s list : List ℕ) (h : Sound (lent rules kinds rig
 -- ── one turn of the loop: the row of the role, and the role that it rests on first ──
 
 module _ (rules kinds rights s : List ℕ) (h : Sound (lent rules kinds rights) s) (u q k p lower : ℕ) (row : Row) where
-  next-is : p ≡ newest s u q k → row ≡ rowAt s (p - 1) → lower ≡ getD (restsOn (policyOf (without-rights rules kinds)) row) 0 256 → lower ≡ getD (restsOn (policyOf (lent rules kinds rights)) (rowAt s (newest s u q k - 1))) 0 256
+  next-is : p ≡ newest s u q k → row ≡ rowAt s (p - 1) → lower ≡ getD (restsOn (policyOf (withoutRights rules kinds)) row) 0 256 → lower ≡ getD (restsOn (policyOf (lent rules kinds rights)) (rowAt s (newest s u q k - 1))) 0 256
   next-is a b c = c ∙ ap (λ (l : List ℕ). getD l 0 256) (rests-same (lent rules kinds rights) row ∙ ap (restsOn (policyOf (lent rules kinds rights))) (b ∙ ap (λ (n : ℕ). rowAt s (n - 1)) a))
 
-  pub turn-stands : p ≡ newest s u q k → row ≡ rowAt s (p - 1) → lower ≡ getD (restsOn (policyOf (without-rights rules kinds)) row) 0 256 → newest s u q k ≢ 0 → k ≤ rowCount s → lower < 256 → newest s u lower (p - 1) ≢ 0
+  pub turn-stands : p ≡ newest s u q k → row ≡ rowAt s (p - 1) → lower ≡ getD (restsOn (policyOf (withoutRights rules kinds)) row) 0 256 → newest s u q k ≢ 0 → k ≤ rowCount s → lower < 256 → newest s u lower (p - 1) ≢ 0
   turn-stands a b c z l r e = next-stands (lent rules kinds rights) s h u q k lower z l (next-is a b c) r (ap (λ (n : ℕ). newest s u lower (n - 1)) (sym a) ∙ e)
 
-  pub turn-written : (whole list : List ℕ) (n : ℕ) → p ≡ newest s u q k → row ≡ rowAt s (p - 1) → lower ≡ getD (restsOn (policyOf (without-rights rules kinds)) row) 0 256 → newest s u q k ≢ 0 → k ≤ rowCount s → n < 256 → length list ≡ 256 → q < 256
+  pub turn-written : (whole list : List ℕ) (n : ℕ) → p ≡ newest s u q k → row ≡ rowAt s (p - 1) → lower ≡ getD (restsOn (policyOf (withoutRights rules kinds)) row) 0 256 → newest s u q k ≢ 0 → k ≤ rowCount s → n < 256 → length list ≡ 256 → q < 256
       → whole ≡ take n list ++ onward (lent rules kinds rights) s u (257 - n) q → whole ≡ take (n + 1) (set list n q) ++ onward (lent rules kinds rights) s u (257 - (n + 1)) lower
   turn-written whole list n a b c z l r size m w = walk-goes-on (lent rules kinds rights) s h u whole list n k q lower r size m z l (next-is a b c) w

@@ -17,7 +17,7 @@ use Rattle.model.specs.Words.{Sound}
 use Rattle.model.proofs.Tests.{lt-or-ge, is-true, of-true, is-false, of-false, and-left, and-right, and-both, any-of, of-any, at-place}
 use Rattle.model.proofs.Support.{isRow-user, isRow-role, joined-of, of-joined}
 use Rattle.model.proofs.Carried.{reverse-last}
-use Rattle.table.specs.Entries.{rowAt, firstRows, without-rights}
+use Rattle.table.specs.Entries.{rowAt, firstRows, withoutRights}
 use Rattle.table.proofs.Entries.{rows-more}
 use Rattle.rests.specs.Newest.{newest}
 use Rattle.rests.specs.Marked.{Answered, Closed, Grown}
@@ -135,21 +135,21 @@ module _ (t : Tables) (having : List Bool) (s : List ℕ) (u : ℕ) where
 
 module _ (rules kinds : List ℕ) (having : List Bool) (s : List ℕ) (u : ℕ) where
   abbrev tables : Tables
-  tables = without-rights rules kinds
+  tables = withoutRights rules kinds
 
   abbrev asks : ℕ → List ℕ
-  asks c = rolesAsked (policyOf (without-rights [] kinds)) (meant c)
+  asks c = rolesAsked (policyOf (withoutRights [] kinds)) (meant c)
 
   module _ (k : ℕ) (row : Row) (e : row ≡ rowAt s k) (a b : List Bool) where
     abbrev ownConditions : List ℕ
-    ownConditions = membership (ruleNumbered (policyOf (without-rights rules [])) (row .rule))
+    ownConditions = membership (ruleNumbered (policyOf (withoutRights rules [])) (row .rule))
 
     rests-asks : restsOn (policyOf tables) (rowAt s k) ≡ joined asks ownConditions
     unfolding restsOn policyOf
     rests-asks = ap (restsOn (policyOf tables)) (sym e) ∙ same ownConditions
       where
         same : (cs : List ℕ) → joined (λ (c : ℕ). rolesAsked (policyOf tables) (meant c)) cs ≡ joined asks cs
-        same cs = λ i. joined (λ (c : ℕ). roles-same (policyOf tables) (policyOf (without-rights [] kinds)) refl (meant c) i) cs
+        same cs = λ i. joined (λ (c : ℕ). roles-same (policyOf tables) (policyOf (withoutRights [] kinds)) refl (meant c) i) cs
 
     -- a role that one of the conditions asks for
     named : (q : ℕ) → reachedIn tables having s u k q ≡ true → (j : ℕ) × (j < length ownConditions) × List·Memᴰ q (asks (getD ownConditions j 0)) → restReaches tables having s u k ≡ true

@@ -16,7 +16,7 @@ use Rattle.model.specs.declared.Answer.{Answer}
 use Rattle.model.specs.declared.Row.{Row}
 use Rattle.model.proofs.Tests.{of-false}
 use Rattle.model.proofs.Numbers.{encode-decode, sound-formed}
-use Rattle.table.specs.Entries.{firstRows, without-rights}
+use Rattle.table.specs.Entries.{firstRows, withoutRights}
 use Rattle.inner.specs.Lent.{lent, Answers}
 use Rattle.inner.proofs.Codes.{own-refuses, own-accepts, in-range, found, active-now}
 use Rattle.rests.proofs.Stepping.{rests-same}
@@ -24,7 +24,7 @@ use Rattle.direct.specs.Having.{hasRight, Having}
 use Rattle.query.specs.Reached.{carried, reachedIn}
 
 -- a role carries the privilege, by the roles that have it themselves or by the rights
-carried-same : (rules kinds rights : List ℕ) (having : List Bool) (u x : ℕ) → Having rights x having → (rows : List Row) (q : ℕ) → carried (without-rights rules kinds) having u rows q ≡ carries (policyOf (lent rules kinds rights)) u x rows q
+carried-same : (rules kinds rights : List ℕ) (having : List Bool) (u x : ℕ) → Having rights x having → (rows : List Row) (q : ℕ) → carried (withoutRights rules kinds) having u rows q ≡ carries (policyOf (lent rules kinds rights)) u x rows q
 unfolding Having direct policyOf
 carried-same rules kinds rights having u x h [] q = refl
 carried-same rules kinds rights having u x h (r ∷ earlier) q =
@@ -53,10 +53,10 @@ module _ (rules kinds rights s : List ℕ) (h : Sound (lent rules kinds rights) 
         (later (in-range (isUser u ∷ isRole q ∷ isPrivilege x ∷ []) (lt→ltb u 4096 in₁, (lt→ltb q 256 in₂, (lt→ltb x 1024 in₃, tt)))) (here (of-false (active (decode s .rows) u q) (sym (active-now s k u q all) ∙ e))))
 
     -- the answer is 1 or 0 as the role carries the privilege, and the state is what it was
-    pub effective-told : (r : Answer) (b : Bool) (having : List Bool) → Having rights x having → active (firstRows s k) u q ≡ true → (r .code ≡ 0) × (r .second ≡ cond b 1 0) → b ≡ reachedIn (without-rights rules kinds) having s u k q → Answers (lent rules kinds rights) s (effective u q x) r s
+    pub effective-told : (r : Answer) (b : Bool) (having : List Bool) → Having rights x having → active (firstRows s k) u q ≡ true → (r .code ≡ 0) × (r .second ≡ cond b 1 0) → b ≡ reachedIn (withoutRights rules kinds) having s u k q → Answers (lent rules kinds rights) s (effective u q x) r s
     unfolding effectiveOn effectively decode reachedIn firstRows
     effective-told r b having g n z f =
         own-accepts (lent rules kinds rights) s [] h (effective u q x) _ effective-is r s [] (z .0)
         (later (in-range (isUser u ∷ isRole q ∷ isPrivilege x ∷ []) (lt→ltb u 4096 in₁, (lt→ltb q 256 in₂, (lt→ltb x 1024 in₃, tt)))) (later (found (active (decode s .rows) u q) (sym (active-now s k u q all) ∙ n)) none))
-        (z .1 ∙ ap (λ (v : Bool). cond v 1 0) (f ∙ ap (λ (m : ℕ). reachedIn (without-rights rules kinds) having s u m q) all ∙ carried-same rules kinds rights having u x g (reverse (firstRows s (rowCount s))) q))
+        (z .1 ∙ ap (λ (v : Bool). cond v 1 0) (f ∙ ap (λ (m : ℕ). reachedIn (withoutRights rules kinds) having s u m q) all ∙ carried-same rules kinds rights having u x g (reverse (firstRows s (rowCount s))) q))
         (sym (encode-decode s (sound-formed (policyOf (lent rules kinds rights)) s (h .state)))) refl

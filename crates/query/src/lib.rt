@@ -8,7 +8,7 @@ ghost use Rattle.model.specs.Limits.{roles};
 ghost use Rattle.model.specs.Layout.{rowCount};
 ghost use Rattle.model.specs.Calls.{invoke as invokeCall, effective as effectiveCall, chain as chainCall};
 ghost use Rattle.model.specs.Words.{Sound};
-ghost use Rattle.table.specs.Entries.{without-rights};
+ghost use Rattle.table.specs.Entries.{withoutRights};
 ghost use Rattle.inner.specs.Lent.{lent, Answers, AnswersWith};
 ghost use Rattle.rests.specs.Marked.{Closed};
 ghost use Rattle.query.specs.Reached.{restReaches, Ready, Tells};
@@ -73,8 +73,8 @@ fn roles_reach(
     k: usize,
     user: u16,
 ) -> bool
-    requires { ⌜ Ready (without-rights (now rules) (now kinds)) (now having) (now state) user × (k ≤ rowCount (now state)) × (length (now asked) ≡ 384) × Closed (now kinds) (now asked) ⌝ }
-    ensures { λ r. ⌜ Tells (without-rights (now (rules .entry)) (now (kinds .entry))) (now (having .entry)) (now (state .entry)) user (now (asked .entry)) k false r ⌝ }
+    requires { ⌜ Ready (withoutRights (now rules) (now kinds)) (now having) (now state) user × (k ≤ rowCount (now state)) × (length (now asked) ≡ 384) × Closed (now kinds) (now asked) ⌝ }
+    ensures { λ r. ⌜ Tells (withoutRights (now (rules .entry)) (now (kinds .entry))) (now (having .entry)) (now (state .entry)) user (now (asked .entry)) k false r ⌝ }
 {
     let mut i = k;
     while 0 < i {
@@ -104,8 +104,8 @@ fn certificates_reach(
     k: usize,
     user: u16,
 ) -> bool
-    requires { ⌜ Ready (without-rights (now rules) (now kinds)) (now having) (now state) user × (k < rowCount (now state)) × (length (now asked) ≡ 384) × Closed (now kinds) (now asked) ⌝ }
-    ensures { λ r. ⌜ Tells (without-rights (now (rules .entry)) (now (kinds .entry))) (now (having .entry)) (now (state .entry)) user (now (asked .entry)) k (restReaches (without-rights (now (rules .entry)) (now (kinds .entry))) (now (having .entry)) (now (state .entry)) user k) r ⌝ }
+    requires { ⌜ Ready (withoutRights (now rules) (now kinds)) (now having) (now state) user × (k < rowCount (now state)) × (length (now asked) ≡ 384) × Closed (now kinds) (now asked) ⌝ }
+    ensures { λ r. ⌜ Tells (withoutRights (now (rules .entry)) (now (kinds .entry))) (now (having .entry)) (now (state .entry)) user (now (asked .entry)) k (restReaches (withoutRights (now (rules .entry)) (now (kinds .entry))) (now (having .entry)) (now (state .entry)) user k) r ⌝ }
 {
     let own = rests::membership_of(rules, table::row_at(state, k));
     let conditions = own.conditions;

@@ -13,17 +13,17 @@ use Rattle.model.specs.Conditions.{Condition, role, kind, fact, malformed, mean
 use Rattle.model.specs.declared.Row.{Row}
 use Rattle.model.specs.declared.Rule.{Rule}
 use Rattle.model.specs.declared.Kind.{Kind}
-use Rattle.table.specs.Entries.{without-rights}
+use Rattle.table.specs.Entries.{withoutRights}
 use Rattle.table.proofs.Worlds.{take-least}
 
 -- ── what a condition asks for ──
 
 module _ (kinds : List ℕ) (c : ℕ) where
-  pub asked-role : c < 256 → c ∷ [] ≡ rolesAsked (policyOf (without-rights [] kinds)) (meant c)
+  pub asked-role : c < 256 → c ∷ [] ≡ rolesAsked (policyOf (withoutRights [] kinds)) (meant c)
   unfolding meant rolesAsked
   asked-role h = sym (rw (lt-ltb c 256 h) refl)
 
-  pub asked-kind : (n : ℕ) (row : Kind) → 256 ≤ c → c < 384 → row ≡ kindNumbered (policyOf (without-rights [] kinds)) (c - 256) → length (row .prerequisites) ≡ 4 → n ≡ min (row .s) 4 → take n (row .prerequisites) ≡ rolesAsked (policyOf (without-rights [] kinds)) (meant c)
+  pub asked-kind : (n : ℕ) (row : Kind) → 256 ≤ c → c < 384 → row ≡ kindNumbered (policyOf (withoutRights [] kinds)) (c - 256) → length (row .prerequisites) ≡ 4 → n ≡ min (row .s) 4 → take n (row .prerequisites) ≡ rolesAsked (policyOf (withoutRights [] kinds)) (meant c)
   unfolding meant rolesAsked
   asked-kind n row h k e size least =
       ap (λ (m : ℕ). take m (row .prerequisites)) least
@@ -31,20 +31,20 @@ module _ (kinds : List ℕ) (c : ℕ) where
       ∙ ap prerequisiteRoles e
       ∙ sym (rw (le-ltb c 256 h, lt-ltb c 384 k) refl)
 
-  pub asked-none : 384 ≤ c → [] ≡ rolesAsked (policyOf (without-rights [] kinds)) (meant c)
+  pub asked-none : 384 ≤ c → [] ≡ rolesAsked (policyOf (withoutRights [] kinds)) (meant c)
   unfolding meant rolesAsked
   asked-none h = go (ltb c 448) (sym (rw (le-ltb c 256 (omega arith), le-ltb c 384 h) refl))
     where
-      fact-or-not : (b : Bool) → [] ≡ rolesAsked (policyOf (without-rights [] kinds)) (cond b (fact (c - 384)) malformed)
+      fact-or-not : (b : Bool) → [] ≡ rolesAsked (policyOf (withoutRights [] kinds)) (cond b (fact (c - 384)) malformed)
       fact-or-not true = refl
       fact-or-not false = refl
 
-      go : (b : Bool) → rolesAsked (policyOf (without-rights [] kinds)) (cond b (fact (c - 384)) malformed) ≡ rolesAsked (policyOf (without-rights [] kinds)) (meant c) → [] ≡ rolesAsked (policyOf (without-rights [] kinds)) (meant c)
+      go : (b : Bool) → rolesAsked (policyOf (withoutRights [] kinds)) (cond b (fact (c - 384)) malformed) ≡ rolesAsked (policyOf (withoutRights [] kinds)) (meant c) → [] ≡ rolesAsked (policyOf (withoutRights [] kinds)) (meant c)
       go b e = fact-or-not b ∙ e
 
 -- ── the conditions of a row's own rule ──
 
-pub own-rule : (rules : List ℕ) (row : Row) (rule : Rule) (m : ℕ) → rule ≡ ruleNumbered (policyOf (without-rights rules [])) (row .rule) → length (rule .conditions) ≡ 8 → m ≡ min (rule .m) 8 → take m (rule .conditions) ≡ membership (ruleNumbered (policyOf (without-rights rules [])) (row .rule))
+pub own-rule : (rules : List ℕ) (row : Row) (rule : Rule) (m : ℕ) → rule ≡ ruleNumbered (policyOf (withoutRights rules [])) (row .rule) → length (rule .conditions) ≡ 8 → m ≡ min (rule .m) 8 → take m (rule .conditions) ≡ membership (ruleNumbered (policyOf (withoutRights rules [])) (row .rule))
 own-rule rules row rule m e size least = ap (λ (n : ℕ). take n (rule .conditions)) least ∙ take-least (rule .m) 8 (rule .conditions) size ∙ ap membership e
 
 -- ── a condition names kinds and nothing else of the policy ──

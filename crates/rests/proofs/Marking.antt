@@ -12,7 +12,7 @@ use lib.Seq.{getD-set-same, getD-set-other, getD-take}
 use Rattle.model.specs.Layout.{policyOf}
 use Rattle.model.specs.Conditions.{meant, rolesAsked}
 use Rattle.model.proofs.Tests.{lt-or-ge, among-first}
-use Rattle.table.specs.Entries.{without-rights}
+use Rattle.table.specs.Entries.{withoutRights}
 use Rattle.rests.specs.Marked.{Answered, Closed, Grown, ConditionAsked, Known, RowAsked}
 use Rattle.rests.proofs.Asking.{asked-role, asked-none}
 
@@ -74,7 +74,7 @@ module _ (kinds : List ℕ) where
       closed : Closed kinds (set a w true)
       closed d k m = answered-keeps a (set a w true) d (mark-keeps a w inside) (h d k (old d k (mark-only a w inside d m)))
 
-      only : (q : ℕ) → (w ≡ q) ⊎ (getD a q false ≡ true) → (getD a q false ≡ true) ⊎ ((j : ℕ) × (j < 1) × List·Memᴰ q (rolesAsked (policyOf (without-rights [] kinds)) (meant (getD (c ∷ []) j 0))))
+      only : (q : ℕ) → (w ≡ q) ⊎ (getD a q false ≡ true) → (getD a q false ≡ true) ⊎ ((j : ℕ) × (j < 1) × List·Memᴰ q (rolesAsked (policyOf (withoutRights [] kinds)) (meant (getD (c ∷ []) j 0))))
       only q (inl z) = inr (0, omega arith, subst (List·Memᴰ q) (asked-role kinds c l) (List·Memᴰ·head (sym z ∙ e)))
       only q (inr z) = inl z
 
@@ -91,15 +91,15 @@ module _ (kinds : List ℕ) where
   grown-next a b d cs i c e g k = record { size = k .grown .size ∙ g .size; closed = k .grown .closed; keeps = λ x h. k .grown .keeps x (g .keeps x h); only = λ q l h. before q l (k .grown .only q l h) }
     where
       Named : ℕ → ℕ → Type 0
-      Named q n = (getD a q false ≡ true) ⊎ ((j : ℕ) × (j < n) × List·Memᴰ q (rolesAsked (policyOf (without-rights [] kinds)) (meant (getD cs j 0))))
+      Named q n = (getD a q false ≡ true) ⊎ ((j : ℕ) × (j < n) × List·Memᴰ q (rolesAsked (policyOf (withoutRights [] kinds)) (meant (getD cs j 0))))
 
       sooner : (q : ℕ) → Named q i → Named q (i + 1)
       sooner q (inl h) = inl h
       sooner q (inr h) = inr (h .0, omega (arith, h .1), h .2)
 
-      before : (q : ℕ) → q < 256 → (getD b q false ≡ true) ⊎ ((j : ℕ) × (j < 1) × List·Memᴰ q (rolesAsked (policyOf (without-rights [] kinds)) (meant (getD (c ∷ []) j 0)))) → Named q (i + 1)
+      before : (q : ℕ) → q < 256 → (getD b q false ≡ true) ⊎ ((j : ℕ) × (j < 1) × List·Memᴰ q (rolesAsked (policyOf (withoutRights [] kinds)) (meant (getD (c ∷ []) j 0)))) → Named q (i + 1)
       before q l (inl h) = sooner q (g .only q l h)
-      before q l (inr (zero, m, h)) = inr (i, omega arith, subst (λ (x : ℕ). List·Memᴰ q (rolesAsked (policyOf (without-rights [] kinds)) (meant x))) e h)
+      before q l (inr (zero, m, h)) = inr (i, omega arith, subst (λ (x : ℕ). List·Memᴰ q (rolesAsked (policyOf (withoutRights [] kinds)) (meant x))) e h)
       before q l (inr (suc j, m, h)) = absurd (omega arith)
 
   pub each-next : (b d : List Bool) (cs : List ℕ) (i c : ℕ) → c ≡ getD cs i 0 → ((j : ℕ) → j < i → Answered kinds b (getD cs j 0)) → ConditionAsked kinds b d c → (j : ℕ) → j < i + 1 → Answered kinds d (getD cs j 0)
@@ -116,11 +116,11 @@ module _ (kinds : List ℕ) where
       count : length ms ≡ m
       count = ap length (sym e) ∙ simp lib.ListN.length-take (omega arith)
 
-      go : (q : ℕ) → (getD a q false ≡ true) ⊎ ((j : ℕ) × (j < i) × List·Memᴰ q (rolesAsked (policyOf (without-rights [] kinds)) (meant (getD cs j 0)))) → (getD a q false ≡ true) ⊎ ((j : ℕ) × (j < length ms) × List·Memᴰ q (rolesAsked (policyOf (without-rights [] kinds)) (meant (getD ms j 0))))
+      go : (q : ℕ) → (getD a q false ≡ true) ⊎ ((j : ℕ) × (j < i) × List·Memᴰ q (rolesAsked (policyOf (withoutRights [] kinds)) (meant (getD cs j 0)))) → (getD a q false ≡ true) ⊎ ((j : ℕ) × (j < length ms) × List·Memᴰ q (rolesAsked (policyOf (withoutRights [] kinds)) (meant (getD ms j 0))))
       go q (inl h) = inl h
       go q (inr h) =
           let within : h .0 < m = omega (arith, h .1) in
-          inr (h .0, omega (arith, count, within), subst (λ (x : ℕ). List·Memᴰ q (rolesAsked (policyOf (without-rights [] kinds)) (meant x))) (sym (getD-take m cs (h .0) 0 within) ∙ ap (λ (l : List ℕ). getD l (h .0) 0) e) (h .2))
+          inr (h .0, omega (arith, count, within), subst (λ (x : ℕ). List·Memᴰ q (rolesAsked (policyOf (withoutRights [] kinds)) (meant x))) (sym (getD-take m cs (h .0) 0 within) ∙ ap (λ (l : List ℕ). getD l (h .0) 0) e) (h .2))
 
   pub each-within : (b : List Bool) (cs ms : List ℕ) (m : ℕ) → take m cs ≡ ms → m ≤ length cs → ((j : ℕ) → j < m → Answered kinds b (getD cs j 0)) → (j : ℕ) → j < length ms → Answered kinds b (getD ms j 0)
   each-within b cs ms m e f h j l =
@@ -189,7 +189,7 @@ module _ (a b : List Bool) (roles : List ℕ) (j q : ℕ) (e : q ≡ getD roles 
       each i o m (inr k) = let at : i ≡ j = omega arith in absurd (omega (arith, e, ap (λ (n : ℕ). getD roles n 0) at))
 
 -- all of its roles, and then its own mark
-pub kind-marked : (kinds : List ℕ) (a b : List Bool) (roles : List ℕ) (n j c w : ℕ) → length a ≡ 384 → length roles ≡ 4 → n ≤ 4 → take n roles ≡ rolesAsked (policyOf (without-rights [] kinds)) (meant c) → j ≡ n → w ≡ c → 256 ≤ c → c < 384 → Closed kinds a → Half a b roles j → ConditionAsked kinds a (set b w true) c
+pub kind-marked : (kinds : List ℕ) (a b : List Bool) (roles : List ℕ) (n j c w : ℕ) → length a ≡ 384 → length roles ≡ 4 → n ≤ 4 → take n roles ≡ rolesAsked (policyOf (withoutRights [] kinds)) (meant c) → j ≡ n → w ≡ c → 256 ≤ c → c < 384 → Closed kinds a → Half a b roles j → ConditionAsked kinds a (set b w true) c
 kind-marked kinds a b roles n j c w size four few e all z k l h g =
     record {
       grown = record { size = length-set b w true ∙ g .size; closed = closed; keeps = λ d m. mark-keeps b w inside d (g .keeps d m); only = λ q m o. only q m (mark-only b w inside q o) };
@@ -216,11 +216,11 @@ kind-marked kinds a b roles n j c w size four few e all z k l h g =
         go (inl x) = answered-keeps kinds b (set b w true) d (mark-keeps b w inside) (subst (λ (y : ℕ). Answered kinds b y) (sym z ∙ x) answered)
         go (inr x) = answered-keeps kinds a (set b w true) d (λ q y. mark-keeps b w inside q (g .keeps q y)) (h d m (sym (g .kinds-same d m) ∙ x))
 
-    only : (q : ℕ) → q < 256 → (w ≡ q) ⊎ (getD b q false ≡ true) → (getD a q false ≡ true) ⊎ ((i : ℕ) × (i < 1) × List·Memᴰ q (rolesAsked (policyOf (without-rights [] kinds)) (meant (getD (c ∷ []) i 0))))
+    only : (q : ℕ) → q < 256 → (w ≡ q) ⊎ (getD b q false ≡ true) → (getD a q false ≡ true) ⊎ ((i : ℕ) × (i < 1) × List·Memᴰ q (rolesAsked (policyOf (withoutRights [] kinds)) (meant (getD (c ∷ []) i 0))))
     only q m (inl x) = absurd (omega arith)
     only q m (inr x) = named (g .only q x)
       where
-        named : (getD a q false ≡ true) ⊎ ((i : ℕ) × (i < j) × (q ≡ getD roles i 0)) → (getD a q false ≡ true) ⊎ ((i : ℕ) × (i < 1) × List·Memᴰ q (rolesAsked (policyOf (without-rights [] kinds)) (meant (getD (c ∷ []) i 0))))
+        named : (getD a q false ≡ true) ⊎ ((i : ℕ) × (i < j) × (q ≡ getD roles i 0)) → (getD a q false ≡ true) ⊎ ((i : ℕ) × (i < 1) × List·Memᴰ q (rolesAsked (policyOf (withoutRights [] kinds)) (meant (getD (c ∷ []) i 0))))
         named (inl y) = inl y
         named (inr y) =
             let within : y .0 < n = omega (arith, y .1) in

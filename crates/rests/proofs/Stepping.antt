@@ -11,7 +11,7 @@ use Rattle.model.specs.Records.{Tables}
 use Rattle.model.specs.Layout.{policyOf}
 use Rattle.model.specs.Conditions.{meant, membership, ruleNumbered, rolesAsked, restsOn}
 use Rattle.model.specs.declared.Row.{Row}
-use Rattle.table.specs.Entries.{without-rights}
+use Rattle.table.specs.Entries.{withoutRights}
 use Rattle.rests.proofs.Asking.{roles-same}
 
 -- ── lists that are joined ──
@@ -47,14 +47,14 @@ module _ {A B : Type 0} (f : A → List B) where
 
 -- ── the row's own membership conditions ──
 
-module _ (rules kinds : List ℕ) (row : Row) (cs : List ℕ) (m : ℕ) (own : take m cs ≡ membership (ruleNumbered (policyOf (without-rights rules [])) (row .rule))) where
+module _ (rules kinds : List ℕ) (row : Row) (cs : List ℕ) (m : ℕ) (own : take m cs ≡ membership (ruleNumbered (policyOf (withoutRights rules [])) (row .rule))) where
   abbrev asks : ℕ → List ℕ
-  asks c = rolesAsked (policyOf (without-rights [] kinds)) (meant c)
+  asks c = rolesAsked (policyOf (withoutRights [] kinds)) (meant c)
 
-  rests : restsOn (policyOf (without-rights rules kinds)) row ≡ joined asks (take m cs)
+  rests : restsOn (policyOf (withoutRights rules kinds)) row ≡ joined asks (take m cs)
   unfolding restsOn policyOf
   rests =
-      (λ j. joined (λ (c : ℕ). roles-same (policyOf (without-rights rules kinds)) (policyOf (without-rights [] kinds)) refl (meant c) j) (membership (ruleNumbered (policyOf (without-rights rules [])) (row .rule))))
+      (λ j. joined (λ (c : ℕ). roles-same (policyOf (withoutRights rules kinds)) (policyOf (withoutRights [] kinds)) refl (meant c) j) (membership (ruleNumbered (policyOf (withoutRights rules [])) (row .rule))))
       ∙ ap (joined asks) (sym own)
 
   -- a condition that asks for no role is passed over
@@ -63,17 +63,17 @@ module _ (rules kinds : List ℕ) (row : Row) (cs : List ℕ) (m : ℕ) (own : t
   step-more i (suc n) roles h a b z = absurd (omega arith)
 
   -- the first that asks for one gives it
-  pub step-found : (i n : ℕ) (roles : List ℕ) → i < m → i < length cs → joined asks (take i cs) ≡ [] → take n roles ≡ asks (getD cs i 0) → 0 < n → 0 < length roles → getD roles 0 0 ≡ getD (restsOn (policyOf (without-rights rules kinds)) row) 0 256
+  pub step-found : (i n : ℕ) (roles : List ℕ) → i < m → i < length cs → joined asks (take i cs) ≡ [] → take n roles ≡ asks (getD cs i 0) → 0 < n → 0 < length roles → getD roles 0 0 ≡ getD (restsOn (policyOf (withoutRights rules kinds)) row) 0 256
   step-found i n roles h l a b z k =
       let head : (0 < length (asks (getD cs i 0))) × (getD (asks (getD cs i 0)) 0 256 ≡ getD roles 0 0) = head-taken n roles (asks (getD cs i 0)) 256 0 b z k in
       sym (ap (λ (w : List ℕ). getD w 0 256) rests ∙ joined-head asks cs 0 256 m i h l a (head .0) ∙ head .1)
 
-  pub step-none : (i : ℕ) → i ≤ m → m ≤ i → joined asks (take i cs) ≡ [] → 256 ≡ getD (restsOn (policyOf (without-rights rules kinds)) row) 0 256
+  pub step-none : (i : ℕ) → i ≤ m → m ≤ i → joined asks (take i cs) ≡ [] → 256 ≡ getD (restsOn (policyOf (withoutRights rules kinds)) row) 0 256
   step-none i h k a =
       let at : m ≡ i = omega arith in
       sym (ap (λ (w : List ℕ). getD w 0 256) (rests ∙ ap (λ (n : ℕ). joined asks (take n cs)) at ∙ a))
 
 -- what a row rests on reads no rights
-pub rests-same : (t : Tables) (row : Row) → restsOn (policyOf (without-rights (t .rules) (t .kinds))) row ≡ restsOn (policyOf t) row
+pub rests-same : (t : Tables) (row : Row) → restsOn (policyOf (withoutRights (t .rules) (t .kinds))) row ≡ restsOn (policyOf t) row
 unfolding restsOn policyOf
-rests-same t row = λ j. joined (λ (c : ℕ). roles-same (policyOf (without-rights (t .rules) (t .kinds))) (policyOf t) refl (meant c) j) (membership (ruleNumbered (policyOf t) (row .rule)))
+rests-same t row = λ j. joined (λ (c : ℕ). roles-same (policyOf (withoutRights (t .rules) (t .kinds))) (policyOf t) refl (meant c) j) (membership (ruleNumbered (policyOf t) (row .rule)))

@@ -8,12 +8,12 @@ use lib.ListN.{length, getD}
 use Rattle.model.specs.Limits.{roles}
 use Rattle.model.specs.Layout.{policyOf}
 use Rattle.model.specs.Conditions.{meant, rolesAsked}
-use Rattle.table.specs.Entries.{without-rights}
+use Rattle.table.specs.Entries.{withoutRights}
 
 module _ (kinds : List ℕ) where
   -- the roles that the condition asks for are marked
   abbrev pub Answered : List Bool → ℕ → Type 0
-  Answered asked c = (q : ℕ) → q < roles → List·Memᴰ q (rolesAsked (policyOf (without-rights [] kinds)) (meant c)) → getD asked q false ≡ true
+  Answered asked c = (q : ℕ) → q < roles → List·Memᴰ q (rolesAsked (policyOf (withoutRights [] kinds)) (meant c)) → getD asked q false ≡ true
 
   -- a kind that is marked has asked for its prerequisite roles
   abbrev pub Closed : List Bool → Type 0
@@ -24,7 +24,7 @@ module _ (kinds : List ℕ) where
     pub size : length after ≡ length before
     pub closed : Closed after
     pub keeps : (c : ℕ) → getD before c false ≡ true → getD after c false ≡ true
-    pub only : (q : ℕ) → q < roles → getD after q false ≡ true → (getD before q false ≡ true) ⊎ ((j : ℕ) × (j < n) × List·Memᴰ q (rolesAsked (policyOf (without-rights [] kinds)) (meant (getD conditions j 0))))
+    pub only : (q : ℕ) → q < roles → getD after q false ≡ true → (getD before q false ≡ true) ⊎ ((j : ℕ) × (j < n) × List·Memᴰ q (rolesAsked (policyOf (withoutRights [] kinds)) (meant (getD conditions j 0))))
 
   -- what the condition asks for was added, and nothing else
   pub record ConditionAsked (before after : List Bool) (c : ℕ) : Type 0 where

@@ -6,7 +6,7 @@ ghost use lib.ListN.{length, getD, take};
 ghost use Rattle.model.specs.Limits.{roles, stateSize, mostRows};
 ghost use Rattle.model.specs.Layout.{policyOf};
 ghost use Rattle.model.specs.Conditions.{meant, membership, ruleNumbered, rolesAsked, restsOn};
-ghost use Rattle.table.specs.Entries.{without-rights};
+ghost use Rattle.table.specs.Entries.{withoutRights};
 ghost use Rattle.rests.specs.Newest.{newest};
 ghost use Rattle.rests.specs.Marked.{Closed, Known, ConditionAsked, RowAsked};
 use model::ROLES;
@@ -21,7 +21,7 @@ pub struct Asked {
 // A role asks for itself, a kind for its prerequisite roles, a fact for none.
 pub fn roles_asked(kinds: &[u16], condition: u16) -> Asked
     ensures few { λ r. ⌜ r .count ≤ 4 ⌝ }
-    ensures asked { λ r. ⌜ take (r .count) (r .roles) ≡ rolesAsked (policyOf (without-rights [] (now (kinds .entry)))) (meant condition) ⌝ }
+    ensures asked { λ r. ⌜ take (r .count) (r .roles) ≡ rolesAsked (policyOf (withoutRights [] (now (kinds .entry)))) (meant condition) ⌝ }
 {
     if condition < 256 {
         return Asked {
@@ -49,7 +49,7 @@ pub struct Membership {
 
 pub fn membership_of(rules: &[u16], row: Row) -> Membership
     ensures few { λ r. ⌜ r .count ≤ 8 ⌝ }
-    ensures own { λ r. ⌜ take (r .count) (r .conditions) ≡ membership (ruleNumbered (policyOf (without-rights (now (rules .entry)) [])) (row .rule)) ⌝ }
+    ensures own { λ r. ⌜ take (r .count) (r .conditions) ≡ membership (ruleNumbered (policyOf (withoutRights (now (rules .entry)) [])) (row .rule)) ⌝ }
 {
     let rule = table::rule_numbered(rules, table::wide(row.rule));
     let conditions = rule.conditions;
@@ -59,7 +59,7 @@ pub fn membership_of(rules: &[u16], row: Row) -> Membership
 
 // The first role that the row rests on, or 256 where it rests on none.
 pub fn next_role(rules: &[u16], kinds: &[u16], row: Row) -> u16
-    ensures { λ r. ⌜ r ≡ getD (restsOn (policyOf (without-rights (now (rules .entry)) (now (kinds .entry)))) row) 0 roles ⌝ }
+    ensures { λ r. ⌜ r ≡ getD (restsOn (policyOf (withoutRights (now (rules .entry)) (now (kinds .entry)))) row) 0 roles ⌝ }
 {
     let own = membership_of(rules, row);
     let conditions = own.conditions;
@@ -139,7 +139,7 @@ pub fn ask_condition(kinds: &[u16], c: u16, asked: &mut [bool])
 // What the row rests on is asked, up to the first kind that has not asked yet. Says whether there is none.
 pub fn ask_row(rules: &[u16], row: Row, asked: &mut [bool]) -> bool
     requires { ⌜ length (now asked) ≡ 384 ⌝ }
-    ensures { λ r. ⌜ RowAsked (membership (ruleNumbered (policyOf (without-rights (now (rules .entry)) [])) (row .rule))) (now (asked .entry)) (now (asked .exit)) r ⌝ }
+    ensures { λ r. ⌜ RowAsked (membership (ruleNumbered (policyOf (withoutRights (now (rules .entry)) [])) (row .rule))) (now (asked .entry)) (now (asked .exit)) r ⌝ }
 {
     let own = membership_of(rules, row);
     let conditions = own.conditions;

@@ -13,7 +13,7 @@ use Rattle.model.specs.Conditions.{noRule, active}
 use Rattle.model.specs.Sound.{sameCertificate, certificateClauses, certificateSound, rowClauses, rowSound, wellFormed, soundRecords, sound}
 use Rattle.model.specs.declared.Row.{Row}
 use Rattle.model.specs.declared.Certificate.{Certificate}
-use Rattle.table.specs.Entries.{without-rights}
+use Rattle.table.specs.Entries.{withoutRights}
 use Rattle.table.proofs.Worlds.{supported-same}
 
 module _ (p₁ p₂ : Policy) (kinds : p₁ .kinds ≡ p₂ .kinds) where
@@ -40,10 +40,10 @@ module _ (p₁ p₂ : Policy) (kinds : p₁ .kinds ≡ p₂ .kinds) where
     rows-same : (rows : List Row) → allOverEarlier (rowSound (worldOf p₁ t)) [] rows ≡ allOverEarlier (rowSound (worldOf p₂ t)) [] rows
     rows-same rows = λ i. allOverEarlier (λ (earlier : List Row) (r : Row). every (row-clauses-same earlier r i)) [] rows
 
-pub sound-without-rights : (t : Tables) (s : List ℕ) → sound (policyOf (without-rights (t .rules) (t .kinds))) s ≡ sound (policyOf t) s
+pub sound-withoutRights : (t : Tables) (s : List ℕ) → sound (policyOf (withoutRights (t .rules) (t .kinds))) s ≡ sound (policyOf t) s
 unfolding sound soundRecords policyOf
-sound-without-rights t s =
+sound-withoutRights t s =
     λ i.
     wellFormed s
-    && (certificates-same (policyOf (without-rights (t .rules) (t .kinds))) (policyOf t) refl (decode s .certificates) i
-    && rows-same (policyOf (without-rights (t .rules) (t .kinds))) (policyOf t) refl (decode s) refl (decode s .rows) i)
+    && (certificates-same (policyOf (withoutRights (t .rules) (t .kinds))) (policyOf t) refl (decode s .certificates) i
+    && rows-same (policyOf (withoutRights (t .rules) (t .kinds))) (policyOf t) refl (decode s) refl (decode s .rows) i)

@@ -8,7 +8,7 @@ ghost use Rattle.model.specs.Lists.{all, any, allOverEarlier, isBit};
 ghost use Rattle.model.specs.Limits.{stateSize, mostCertificates, mostKinds};
 ghost use Rattle.model.specs.Layout.{decode, policyOf, factNumbers, rowCount};
 ghost use Rattle.model.specs.Sound.{wellFormed, sameCertificate, certificateSound, rowSound, sound};
-ghost use Rattle.table.specs.Entries.{rowAt, firstRows, certificateAt, firstCertificates, without-rights, worldAt, Sized};
+ghost use Rattle.table.specs.Entries.{rowAt, firstRows, certificateAt, firstCertificates, withoutRights, worldAt, Sized};
 ghost use Rattle.index.specs.Indexed.{InRange, Numbered, Indexed};
 ghost use Rattle.policy.specs.Lent.{kindsOnly};
 ghost use Rattle.sound.specs.Traces.{trace, Traced};
@@ -279,7 +279,7 @@ fn rows_sound(rules: &[u16], kinds: &[u16], state: &[u16]) -> bool
 // The state is well formed, and its certificates and active rows are sound, each over those before it.
 pub fn state_sound(rules: &[u16], kinds: &[u16], state: &[u16]) -> bool
     requires { ⌜ length (now kinds) / 7 ≤ mostKinds ⌝ }
-    ensures { λ r. ⌜ r ≡ sound (policyOf (without-rights (now (rules .entry)) (now (kinds .entry)))) (now (state .entry)) ⌝ }
+    ensures { λ r. ⌜ r ≡ sound (policyOf (withoutRights (now (rules .entry)) (now (kinds .entry)))) (now (state .entry)) ⌝ }
 {
     if !well_formed(state) {
         return false;

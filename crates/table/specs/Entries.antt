@@ -45,12 +45,12 @@ unfoldable pub firstCertificates : List ℕ → ℕ → List Certificate
 firstCertificates s k = entries certificateFrom certificateWidth (certificateNumbers s) k
 
 -- the rules and kinds as they are lent; nothing here reads a right
-abbrev pub without-rights : List ℕ → List ℕ → Tables
-without-rights rules kinds = record { rules = rules; kinds = kinds; rights = [] }
+abbrev pub withoutRights : List ℕ → List ℕ → Tables
+withoutRights rules kinds = record { rules = rules; kinds = kinds; rights = [] }
 
 -- what conditions are judged against
 abbrev pub worldAt : List ℕ → List ℕ → List ℕ → World
-worldAt rules kinds s = worldOf (policyOf (without-rights rules kinds)) (decode s)
+worldAt rules kinds s = worldOf (policyOf (withoutRights rules kinds)) (decode s)
 
 -- the state has its length, and its counts are within the tables
 pub record Sized (s : List ℕ) : Type 0 where

@@ -6,7 +6,7 @@ ghost use lib.ListN.{length};
 ghost use Rattle.model.specs.Limits.{stateSize, mostRows, mostCertificates};
 ghost use Rattle.model.specs.Layout.{policyOf};
 ghost use Rattle.model.specs.Conditions.{isRow, active, kindNumbered, ruleNumbered};
-ghost use Rattle.table.specs.Entries.{ruleAt, kindAt, rightAt, rowAt, firstRows, certificateAt, without-rights};
+ghost use Rattle.table.specs.Entries.{ruleAt, kindAt, rightAt, rowAt, firstRows, certificateAt, withoutRights};
 use model::CERTIFICATE_WIDTH;
 use model::CERTIFICATES;
 use model::Certificate;
@@ -110,7 +110,7 @@ pub fn certificate_at(state: &[u16], i: usize) -> Certificate
 
 // The rule of any number: where there is no row, one of zeros.
 pub fn rule_numbered(rules: &[u16], i: usize) -> Rule
-    ensures { λ r. ⌜ r ≡ ruleNumbered (policyOf (without-rights (now (rules .entry)) [])) i ⌝ }
+    ensures { λ r. ⌜ r ≡ ruleNumbered (policyOf (withoutRights (now (rules .entry)) [])) i ⌝ }
 {
     if i < rules.len() / RULE_WIDTH {
         rule_at(rules, i)
@@ -126,7 +126,7 @@ pub fn rule_numbered(rules: &[u16], i: usize) -> Rule
 
 // The kind of any number: where there is no row, one of zeros.
 pub fn kind_numbered(kinds: &[u16], k: usize) -> Kind
-    ensures { λ r. ⌜ r ≡ kindNumbered (policyOf (without-rights [] (now (kinds .entry)))) k ⌝ }
+    ensures { λ r. ⌜ r ≡ kindNumbered (policyOf (withoutRights [] (now (kinds .entry)))) k ⌝ }
 {
     if k < kinds.len() / KIND_WIDTH {
         kind_at(kinds, k)

@@ -26,7 +26,7 @@ use Rattle.model.proofs.Refusals.{first-applies, only-first}
 use Rattle.model.proofs.Parts.{without-none}
 use Rattle.model.proofs.Numbers.{decode-encode, encode-formed, sound-decode}
 use Rattle.model.proofs.Kept.{sound-certificates, fact-fits, certificates-fit}
-use Rattle.table.specs.Entries.{worldAt, without-rights}
+use Rattle.table.specs.Entries.{worldAt, withoutRights}
 use Rattle.table.proofs.Entries.{sized}
 use Rattle.table.proofs.Worlds.{supported-same}
 use Rattle.index.specs.Indexed.{InRange}
@@ -117,7 +117,7 @@ without-first p c earlier (x ∷ l) t a = go (sameCertificate c x) refl a (λ v.
 -- what is left does not depend on the rights
 same-fall : (rules kinds rights : List ℕ) (v : State) → fallenRows rules kinds v ≡ left (supported (worldOf (policyOf (lent rules kinds rights)) v)) (v .rows)
 unfolding policyOf
-same-fall rules kinds rights v = λ i. left (supported-same (policyOf (without-rights rules kinds)) (policyOf (lent rules kinds rights)) v refl refl i) (v .rows)
+same-fall rules kinds rights v = λ i. left (supported-same (policyOf (withoutRights rules kinds)) (policyOf (lent rules kinds rights)) v refl refl i) (v .rows)
 
 -- a course that is refused, and one that is not
 refused-comes : (course : Course) (s : List ℕ) (r : Answer) (code : ℕ) → 0 < code → (r .code ≡ code) × (r .second ≡ 0) → FirstApplies (course .refusals) code → Comes course s r s
@@ -185,7 +185,7 @@ module _ (rules kinds rights s : List ℕ) (h : Sound (lent rules kinds rights) 
     withdrawn = on-sound (withdraw a k b) _ refl r s′
 
     -- a caller in range is one test fewer
-    pub revoked : (caller : ℕ) (allowed : Bool) → caller < 4096 → allowed ≡ mayRevoke (decode s .rows) (kindNumbered (policyOf (without-rights [] kinds)) k) caller b → Comes (takenOn (given (lent rules kinds rights) s []) (record { appointee = a; kind = k; appointer = b }) allowed) s r s′
+    pub revoked : (caller : ℕ) (allowed : Bool) → caller < 4096 → allowed ≡ mayRevoke (decode s .rows) (kindNumbered (policyOf (withoutRights [] kinds)) k) caller b → Comes (takenOn (given (lent rules kinds rights) s []) (record { appointee = a; kind = k; appointer = b }) allowed) s r s′
         → Answers (lent rules kinds rights) s (revoke caller a k b) r s′
     unfolding courseOf revokeOn policyOf
     revoked caller allowed in₀ e x =

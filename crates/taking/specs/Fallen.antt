@@ -7,12 +7,12 @@ use Rattle.model.specs.Layout.{policyOf, encode}
 use lib.ListN.{length}
 use Rattle.model.specs.Conditions.{supported}
 use Rattle.model.specs.Left.{left}
-use Rattle.table.specs.Entries.{without-rights}
+use Rattle.table.specs.Entries.{withoutRights}
 use Rattle.model.specs.declared.Row.{Row}
 
 -- the rows of the state v that are left
 abbrev pub fallenRows : List ℕ → List ℕ → State → List Row
-fallenRows rules kinds v = left (supported (worldOf (policyOf (without-rights rules kinds)) v)) (v .rows)
+fallenRows rules kinds v = left (supported (worldOf (policyOf (withoutRights rules kinds)) v)) (v .rows)
 
 -- s′ is v with these rows alone, as numbers; `lost` is the rows lost
 pub record Fallen (rules kinds : List ℕ) (v : State) (s′ : List ℕ) (lost : ℕ) : Type 0 where

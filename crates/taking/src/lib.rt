@@ -12,7 +12,7 @@ ghost use Rattle.model.specs.Sound.{wellFormed};
 ghost use Rattle.model.specs.Calls.{revoke as revokeCall, withdraw as withdrawCall, environment as environmentCall, logout as logoutCall, mayRevoke};
 ghost use Rattle.model.specs.Outcome.{given};
 ghost use Rattle.model.specs.Words.{Sound};
-ghost use Rattle.table.specs.Entries.{without-rights, Sized};
+ghost use Rattle.table.specs.Entries.{withoutRights, Sized};
 ghost use Rattle.index.specs.Indexed.{InRange};
 ghost use Rattle.inner.specs.Lent.{lent, Answers};
 ghost use Rattle.taking.specs.Fallen.{Fallen};
@@ -38,7 +38,7 @@ fn take_certificate(rules: &[u16], kinds: &[u16], state: &mut [u16], j: usize) -
 // Mode and caller allow the certificate's revocation.
 fn may_revoke(kinds: &[u16], state: &[u16], caller: u16, kind: u16, appointer: u16) -> bool
     requires { ⌜ Sized (now state) ⌝ }
-    ensures { λ r. ⌜ r ≡ mayRevoke (decode (now (state .entry)) .rows) (kindNumbered (policyOf (without-rights [] (now (kinds .entry)))) kind) caller appointer ⌝ }
+    ensures { λ r. ⌜ r ≡ mayRevoke (decode (now (state .entry)) .rows) (kindNumbered (policyOf (withoutRights [] (now (kinds .entry)))) kind) caller appointer ⌝ }
 {
     let row = table::kind_numbered(kinds, table::wide(kind));
     let mode = row.mode;

@@ -6,7 +6,7 @@ use borrow.Author.Tests.{not-true, not-false}
 use Rattle.model.specs.Lists.{all}
 use Rattle.model.specs.Layout.{policyOf}
 use Rattle.model.specs.Conditions.{kindNumbered, prerequisiteRoles}
-use Rattle.table.specs.Entries.{without-rights}
+use Rattle.table.specs.Entries.{withoutRights}
 use Rattle.index.specs.Marked.{block, roleMarked}
 use Rattle.index.proofs.Holding.{prerequisites-marked}
 use borrow.Author.Needs.{needs}
@@ -27,7 +27,7 @@ is-marked-requires c κs = search needs
 
 returns : tie.Need-returns
 returns c =
-    ap (λ (b : Bool). b && all (roleMarked (block (c .before .before .before .before .before .args .words .now) (c .before .before .before .before .before .args .base))) (prerequisiteRoles (kindNumbered (policyOf (without-rights [] (c .before .before .before .before .before .args .kinds .now))) (c .before .before .before .before .before .args .kind))))
+    ap (λ (b : Bool). b && all (roleMarked (block (c .before .before .before .before .before .args .words .now) (c .before .before .before .before .before .args .base))) (prerequisiteRoles (kindNumbered (policyOf (withoutRights [] (c .before .before .before .before .before .args .kinds .now))) (c .before .before .before .before .before .args .kind))))
     (sym (not-true _ (c .if1 .taken)) ∙ c .before .is-marked .ensures ∙ ap (λ (n : ℕ). block (c .before .before .before .before .before .args .words .now) (c .before .before .before .before .before .args .base) (256 + n)) (c .before .before .wide .ensures))
 
 wide-requires-2 : tie.Need-wide-requires-2
@@ -47,9 +47,9 @@ all-marked-requires c κs = search needs
 
 returns-2 : tie.Need-returns-2
 returns-2 c =
-    prerequisites-marked (block (c .before .before .before .before .before .before .before .before .before .before .before .args .words .now) (c .before .before .before .before .before .before .before .before .before .before .before .args .base)) (policyOf (without-rights [] (c .before .before .before .before .before .before .before .before .before .before .before .args .kinds .now))) (c .before .before .before .before .before .before .before .before .before .before .before .args .kind) (c .before .least .result) (c .before .before .before .before .kind-numbered .result) (block (c .before .before .before .before .before .before .before .before .before .before .before .args .words .now) (c .before .before .before .before .before .before .before .before .before .before .before .args .base) (256 + c .before .before .before .before .before .before .before .before .before .before .before .args .kind)) (c .all-marked .result)
+    prerequisites-marked (block (c .before .before .before .before .before .before .before .before .before .before .before .args .words .now) (c .before .before .before .before .before .before .before .before .before .before .before .args .base)) (policyOf (withoutRights [] (c .before .before .before .before .before .before .before .before .before .before .before .args .kinds .now))) (c .before .before .before .before .before .before .before .before .before .before .before .args .kind) (c .before .least .result) (c .before .before .before .before .kind-numbered .result) (block (c .before .before .before .before .before .before .before .before .before .before .before .args .words .now) (c .before .before .before .before .before .before .before .before .before .before .before .args .base) (256 + c .before .before .before .before .before .before .before .before .before .before .before .args .kind)) (c .all-marked .result)
     (ap (λ (n : ℕ). block (c .before .before .before .before .before .before .before .before .before .before .before .args .words .now) (c .before .before .before .before .before .before .before .before .before .before .before .args .base) (256 + n)) (sym (c .before .before .before .before .before .before .before .before .wide .ensures)) ∙ sym (c .before .before .before .before .before .before .before .is-marked .ensures) ∙ not-false _ (c .before .before .before .before .before .before .if1 .left))
-    (c .before .before .before .before .kind-numbered .ensures ∙ ap (λ (n : ℕ). kindNumbered (policyOf (without-rights [] (c .before .before .before .before .before .before .before .before .before .before .before .args .kinds .now))) n) (c .before .before .before .before .before .wide2 .ensures))
+    (c .before .before .before .before .kind-numbered .ensures ∙ ap (λ (n : ℕ). kindNumbered (policyOf (withoutRights [] (c .before .before .before .before .before .before .before .before .before .before .before .args .kinds .now))) n) (c .before .before .before .before .before .wide2 .ensures))
     (search needs)
     (c .before .least .ensures ∙ ap (λ (n : ℕ). min n 4) (c .before .before .wide3 .ensures))
     (c .all-marked .ensures)

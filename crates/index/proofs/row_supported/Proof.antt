@@ -3,7 +3,7 @@ use mathlib.Core.List.{[]}
 use Prim.Native.Nat.{ℕ, min}
 use Rattle.model.specs.Layout.{policyOf}
 use Rattle.model.specs.Conditions.{ruleNumbered}
-use Rattle.table.specs.Entries.{without-rights}
+use Rattle.table.specs.Entries.{withoutRights}
 use Rattle.index.specs.Marked.{block}
 use Rattle.index.proofs.Holding.{membership-by}
 use borrow.Author.Needs.{needs}
@@ -28,7 +28,7 @@ all-conditions-hold-requires c κs = search needs
 returns : tie.Need-returns
 returns c =
     membership-by (block (c .before .before .before .before .before .before .before .before .before .before .args .words .now) (c .before .before .before .before .before .before .before .before .before .before .args .base)) (c .before .before .before .before .before .before .before .before .before .before .args .rules .now) (c .before .before .before .before .before .before .before .before .before .before .args .kinds .now) (c .before .before .before .before .before .before .before .before .before .before .args .state .now) (c .before .least .result) (c .before .before .before .before .rule-numbered .result) (c .before .before .before .before .before .before .before .before .before .before .args .row .user) (c .before .before .before .before .before .before .before .before .before .before .args .row .role) (c .before .before .before .before .before .before .before .before .before .before .args .row .rule) (c .all-conditions-hold .result)
-    (c .before .before .before .before .rule-numbered .ensures ∙ ap (λ (n : ℕ). ruleNumbered (policyOf (without-rights (c .before .before .before .before .before .before .before .before .before .before .args .rules .now) [])) n) (c .before .before .before .before .before .wide .ensures))
+    (c .before .before .before .before .rule-numbered .ensures ∙ ap (λ (n : ℕ). ruleNumbered (policyOf (withoutRights (c .before .before .before .before .before .before .before .before .before .before .args .rules .now) [])) n) (c .before .before .before .before .before .wide .ensures))
     (search needs)
     (c .before .least .ensures ∙ ap (λ (n : ℕ). min n 8) (c .before .before .wide2 .ensures))
     (c .all-conditions-hold .ensures)

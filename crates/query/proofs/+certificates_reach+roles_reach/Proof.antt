@@ -7,7 +7,7 @@ use native.Mathlib.Omega.{arith}
 use borrow.Author.Tests.{not-true, not-false}
 use borrow.Author.Needs.{needs}
 use lib.ListN.{length, getD}
-use Rattle.table.specs.Entries.{without-rights}
+use Rattle.table.specs.Entries.{withoutRights}
 use Rattle.rests.specs.Marked.{Answered, Closed, Grown}
 use Rattle.rests.proofs.Marking.{grown-none, grown-next, each-next, grown-within, each-within}
 use Rattle.query.specs.Reached.{Tells}
@@ -162,7 +162,7 @@ certificates-reach-returns : (t : ℕ) → certificates-reach-lts.Need-returns (
 certificates-reach-returns t c = let z : length (c .before .before .before .before .before .before .before .membership-of .result .conditions) ≡ 8 = search needs in let few : c .before .before .before .before .before .before .before .membership-of .result .count ≤ length (c .before .before .before .before .before .before .before .membership-of .result .conditions) = omega (arith, z, c .before .before .before .before .before .before .before .membership-of .ensures .0) in let all : c .before .before .before .before .before .loop .i ≡ c .before .before .before .before .before .before .before .membership-of .result .count = omega (arith, c .before .before .before .before .before .loop .inv .0) in tell-all (c .before .before .before .before .before .before .before .before .before .before .before .before .before .args .rules .now) (c .before .before .before .before .before .before .before .before .before .before .before .before .before .args .kinds .now) (c .before .before .before .before .before .before .before .before .before .before .before .before .before .args .having .now) (c .before .before .before .before .before .before .before .before .before .before .before .before .before .args .state .now) (c .before .before .before .before .before .before .before .before .before .before .before .before .before .args .user) (c .before .before .before .before .before .before .before .before .before .before .before .before .before .args .k) (c .before .before .before .before .before .before .before .before .row-at .result) (c .before .before .before .before .before .before .before .before .row-at .ensures) (c .before .before .before .before .before .before .before .before .before .before .before .before .before .args .asked .now) (c .before .before .before .before .before .loop .asked) (c .before .before .before .before .before .before .before .before .before .before .before .before .before .pre .1 .0) (omega (arith, c .before .before .before .before .before .before .before .before .before .before .before .before .before .pre .1 .1)) _ (grown-within _ _ _ (c .before .before .before .before .before .before .before .membership-of .result .conditions) _ (c .before .before .before .before .before .loop .i) (c .before .before .before .before .before .before .before .membership-of .result .count) (c .before .before .before .before .before .before .before .membership-of .ensures .1) (c .before .before .before .before .before .loop .inv .0) few (c .before .before .before .before .before .loop .inv .1)) (each-within _ (c .before .before .before .before .before .loop .asked) (c .before .before .before .before .before .before .before .membership-of .result .conditions) _ (c .before .before .before .before .before .before .before .membership-of .result .count) (c .before .before .before .before .before .before .before .membership-of .ensures .1) few (λ j l. c .before .before .before .before .before .loop .inv .2 j (omega arith))) (c .before .before .roles-reach .ensures)
 
 abbrev roles-reach-Inv-loop : roles-reach-lts.InvT-loop
-roles-reach-Inv-loop rules kinds having state asked₀ k user i₀ asked i = (i ≤ k) × (length asked ≡ 384) × Closed kinds asked × ((r : Bool) → Tells (without-rights rules kinds) having state user asked i false r → Tells (without-rights rules kinds) having state user asked₀ k false r)
+roles-reach-Inv-loop rules kinds having state asked₀ k user i₀ asked i = (i ≤ k) × (length asked ≡ 384) × Closed kinds asked × ((r : Bool) → Tells (withoutRights rules kinds) having state user asked i false r → Tells (withoutRights rules kinds) having state user asked₀ k false r)
 
 abbrev roles-reach-μ-loop : roles-reach-lts.MeasureT-loop
 roles-reach-μ-loop rules kinds having state asked₀ k user i₀ asked i = i
@@ -183,7 +183,7 @@ roles-reach-loop-less : (t : ℕ) → roles-reach-lts.Need-loop-less (calls-role
 roles-reach-loop-less t c = search needs
 
 roles-reach-loop-again : (t : ℕ) → roles-reach-lts.Need-loop-again (calls-roles-reach t) (roles-reach-at t) roles-reach.Post roles-reach-Inv-loop roles-reach-μ-loop
-roles-reach-loop-again t c = (omega (arith, c .before .before .before .before .before .loop .inv .0), c .before .before .before .before .before .loop .inv .1, c .before .before .before .before .before .loop .inv .2, λ r h. c .before .before .before .before .before .loop .inv .3 r (back (without-rights (c .before .before .before .before .before .before .before .before .before .before .args .rules .now) (c .before .before .before .before .before .before .before .before .before .before .args .kinds .now)) (c .before .before .before .before .before .before .before .before .before .before .args .having .now) (c .before .before .before .before .before .before .before .before .before .before .args .state .now) (c .before .before .before .before .before .before .before .before .before .before .args .user) (c .before .before .before .before .before .loop .asked) (c .before .before .before .before .before .loop .i) r (c .before .before .before .before .loop-test .taken) (tell-other (without-rights (c .before .before .before .before .before .before .before .before .before .before .args .rules .now) (c .before .before .before .before .before .before .before .before .before .before .args .kinds .now)) (c .before .before .before .before .before .before .before .before .before .before .args .having .now) (c .before .before .before .before .before .before .before .before .before .before .args .state .now) (c .before .before .before .before .before .before .before .before .before .before .args .user) (c .before .before .before .before .before .loop .asked) _ (c .before .before .before .row-at .result) (c .before .before .before .row-at .ensures) r (sym (c .before .is-asked .ensures) ∙ not-true _ (c .if1 .taken)) h)))
+roles-reach-loop-again t c = (omega (arith, c .before .before .before .before .before .loop .inv .0), c .before .before .before .before .before .loop .inv .1, c .before .before .before .before .before .loop .inv .2, λ r h. c .before .before .before .before .before .loop .inv .3 r (back (withoutRights (c .before .before .before .before .before .before .before .before .before .before .args .rules .now) (c .before .before .before .before .before .before .before .before .before .before .args .kinds .now)) (c .before .before .before .before .before .before .before .before .before .before .args .having .now) (c .before .before .before .before .before .before .before .before .before .before .args .state .now) (c .before .before .before .before .before .before .before .before .before .before .args .user) (c .before .before .before .before .before .loop .asked) (c .before .before .before .before .before .loop .i) r (c .before .before .before .before .loop-test .taken) (tell-other (withoutRights (c .before .before .before .before .before .before .before .before .before .before .args .rules .now) (c .before .before .before .before .before .before .before .before .before .before .args .kinds .now)) (c .before .before .before .before .before .before .before .before .before .before .args .having .now) (c .before .before .before .before .before .before .before .before .before .before .args .state .now) (c .before .before .before .before .before .before .before .before .before .before .args .user) (c .before .before .before .before .before .loop .asked) _ (c .before .before .before .row-at .result) (c .before .before .before .row-at .ensures) r (sym (c .before .is-asked .ensures) ∙ not-true _ (c .if1 .taken)) h)))
 
 roles-reach-has-right-requires : (t : ℕ) → roles-reach-lts.Need-has-right-requires (calls-roles-reach t) (roles-reach-at t) roles-reach.Post roles-reach-Inv-loop roles-reach-μ-loop
 roles-reach-has-right-requires t c κs = search needs
@@ -192,7 +192,7 @@ roles-reach-same-length : (t : ℕ) → roles-reach-lts.Need-same-length (calls-
 roles-reach-same-length t c = c .before .before .before .before .before .before .before .loop .inv .1 ∙ sym (c .before .before .before .before .before .before .before .before .before .before .before .before .pre .1 .2)
 
 roles-reach-returns : (t : ℕ) → roles-reach-lts.Need-returns (calls-roles-reach t) (roles-reach-at t) roles-reach.Post roles-reach-Inv-loop roles-reach-μ-loop
-roles-reach-returns t c = c .before .before .before .before .before .before .before .loop .inv .3 _ (back (without-rights (c .before .before .before .before .before .before .before .before .before .before .before .before .args .rules .now) (c .before .before .before .before .before .before .before .before .before .before .before .before .args .kinds .now)) (c .before .before .before .before .before .before .before .before .before .before .before .before .args .having .now) (c .before .before .before .before .before .before .before .before .before .before .before .before .args .state .now) (c .before .before .before .before .before .before .before .before .before .before .before .before .args .user) (c .before .before .before .before .before .before .before .loop .asked) (c .before .before .before .before .before .before .before .loop .i) _ (c .before .before .before .before .before .before .loop-test .taken) (tell-own (without-rights (c .before .before .before .before .before .before .before .before .before .before .before .before .args .rules .now) (c .before .before .before .before .before .before .before .before .before .before .before .before .args .kinds .now)) (c .before .before .before .before .before .before .before .before .before .before .before .before .args .having .now) (c .before .before .before .before .before .before .before .before .before .before .before .before .args .state .now) (c .before .before .before .before .before .before .before .before .before .before .before .before .args .user) (c .before .before .before .before .before .before .before .loop .asked) _ (c .before .before .before .before .before .row-at .result) (c .before .before .before .before .before .row-at .ensures) (subst⁻¹ (λ (r : Row). r .role < 256) (c .before .before .before .before .before .row-at .ensures) (c .before .before .before .before .before .before .before .before .before .before .before .before .pre .1 .0 .fits _ (omega (arith, c .before .before .before .before .before .before .before .before .before .before .before .before .pre .1 .1, c .before .before .before .before .before .before .before .loop .inv .0, c .before .before .before .before .before .before .loop-test .taken)))) (sym (c .before .before .before .is-asked .ensures) ∙ not-false _ (c .before .before .if1 .left)) (sym (c .before .has-right .ensures) ∙ c .if2 .taken)))
+roles-reach-returns t c = c .before .before .before .before .before .before .before .loop .inv .3 _ (back (withoutRights (c .before .before .before .before .before .before .before .before .before .before .before .before .args .rules .now) (c .before .before .before .before .before .before .before .before .before .before .before .before .args .kinds .now)) (c .before .before .before .before .before .before .before .before .before .before .before .before .args .having .now) (c .before .before .before .before .before .before .before .before .before .before .before .before .args .state .now) (c .before .before .before .before .before .before .before .before .before .before .before .before .args .user) (c .before .before .before .before .before .before .before .loop .asked) (c .before .before .before .before .before .before .before .loop .i) _ (c .before .before .before .before .before .before .loop-test .taken) (tell-own (withoutRights (c .before .before .before .before .before .before .before .before .before .before .before .before .args .rules .now) (c .before .before .before .before .before .before .before .before .before .before .before .before .args .kinds .now)) (c .before .before .before .before .before .before .before .before .before .before .before .before .args .having .now) (c .before .before .before .before .before .before .before .before .before .before .before .before .args .state .now) (c .before .before .before .before .before .before .before .before .before .before .before .before .args .user) (c .before .before .before .before .before .before .before .loop .asked) _ (c .before .before .before .before .before .row-at .result) (c .before .before .before .before .before .row-at .ensures) (subst⁻¹ (λ (r : Row). r .role < 256) (c .before .before .before .before .before .row-at .ensures) (c .before .before .before .before .before .before .before .before .before .before .before .before .pre .1 .0 .fits _ (omega (arith, c .before .before .before .before .before .before .before .before .before .before .before .before .pre .1 .1, c .before .before .before .before .before .before .before .loop .inv .0, c .before .before .before .before .before .before .loop-test .taken)))) (sym (c .before .before .before .is-asked .ensures) ∙ not-false _ (c .before .before .if1 .left)) (sym (c .before .has-right .ensures) ∙ c .if2 .taken)))
 
 roles-reach-ask-row-requires : (t : ℕ) → roles-reach-lts.Need-ask-row-requires (calls-roles-reach t) (roles-reach-at t) roles-reach.Post roles-reach-Inv-loop roles-reach-μ-loop
 roles-reach-ask-row-requires t c κs = c .before .before .before .before .before .before .before .before .loop .inv .1
@@ -205,19 +205,19 @@ roles-reach-same-length-2 : (t : ℕ) → roles-reach-lts.Need-same-length-2 (ca
 roles-reach-same-length-2 t c = c .before .before .certificates-reach .kept .1 .1 .1 .1 .0 ∙ (c .before .before .before .before .before .before .before .ask-row .ensures .grown (c .before .before .before .before .before .before .before .before .before .before .before .before .before .before .before .before .before .before .before .before .before .args .kinds .now) (c .before .before .before .before .before .before .before .before .before .before .before .before .before .before .before .before .loop .inv .2)) .size ∙ c .before .before .before .before .before .before .before .before .before .before .before .before .before .before .before .before .loop .inv .1 ∙ sym (c .before .before .before .before .before .before .before .before .before .before .before .before .before .before .before .before .before .before .before .before .before .pre .1 .2)
 
 roles-reach-returns-2 : (t : ℕ) → roles-reach-lts.Need-returns-2 (calls-roles-reach t) (roles-reach-at t) roles-reach.Post roles-reach-Inv-loop roles-reach-μ-loop
-roles-reach-returns-2 t c = c .before .before .before .before .before .before .before .before .before .before .before .before .before .before .before .before .loop .inv .3 _ (back (without-rights (c .before .before .before .before .before .before .before .before .before .before .before .before .before .before .before .before .before .before .before .before .before .args .rules .now) (c .before .before .before .before .before .before .before .before .before .before .before .before .before .before .before .before .before .before .before .before .before .args .kinds .now)) (c .before .before .before .before .before .before .before .before .before .before .before .before .before .before .before .before .before .before .before .before .before .args .having .now) (c .before .before .before .before .before .before .before .before .before .before .before .before .before .before .before .before .before .before .before .before .before .args .state .now) (c .before .before .before .before .before .before .before .before .before .before .before .before .before .before .before .before .before .before .before .before .before .args .user) (c .before .before .before .before .before .before .before .before .before .before .before .before .before .before .before .before .loop .asked) (c .before .before .before .before .before .before .before .before .before .before .before .before .before .before .before .before .loop .i) _ (c .before .before .before .before .before .before .before .before .before .before .before .before .before .before .before .loop-test .taken) (tell-row (without-rights (c .before .before .before .before .before .before .before .before .before .before .before .before .before .before .before .before .before .before .before .before .before .args .rules .now) (c .before .before .before .before .before .before .before .before .before .before .before .before .before .before .before .before .before .before .before .before .before .args .kinds .now)) (c .before .before .before .before .before .before .before .before .before .before .before .before .before .before .before .before .before .before .before .before .before .args .having .now) (c .before .before .before .before .before .before .before .before .before .before .before .before .before .before .before .before .before .before .before .before .before .args .state .now) (c .before .before .before .before .before .before .before .before .before .before .before .before .before .before .before .before .before .before .before .before .before .args .user) (c .before .before .before .before .before .before .before .before .before .before .before .before .before .before .before .before .loop .asked) _ (c .before .before .before .before .before .before .before .before .before .before .before .before .before .before .row-at .result) (c .before .before .before .before .before .before .before .before .before .before .before .before .before .before .row-at .ensures) (subst⁻¹ (λ (r : Row). r .role < 256) (c .before .before .before .before .before .before .before .before .before .before .before .before .before .before .row-at .ensures) (c .before .before .before .before .before .before .before .before .before .before .before .before .before .before .before .before .before .before .before .before .before .pre .1 .0 .fits _ (omega (arith, c .before .before .before .before .before .before .before .before .before .before .before .before .before .before .before .before .before .before .before .before .before .pre .1 .1, c .before .before .before .before .before .before .before .before .before .before .before .before .before .before .before .before .loop .inv .0, c .before .before .before .before .before .before .before .before .before .before .before .before .before .before .before .loop-test .taken)))) (sym (c .before .before .before .before .before .before .before .before .before .before .before .before .is-asked .ensures) ∙ not-false _ (c .before .before .before .before .before .before .before .before .before .before .before .if1 .left)) (c .before .before .before .before .before .before .before .before .before .before .before .before .before .before .before .before .before .before .before .before .before .pre .1 .0) (omega (arith, c .before .before .before .before .before .before .before .before .before .before .before .before .before .before .before .before .before .before .before .before .before .pre .1 .1, c .before .before .before .before .before .before .before .before .before .before .before .before .before .before .before .before .loop .inv .0, c .before .before .before .before .before .before .before .before .before .before .before .before .before .before .before .loop-test .taken)) _ (sym (c .before .before .before .before .before .before .before .before .before .before .has-right .ensures) ∙ c .before .before .before .before .before .before .before .before .before .if2 .left) (tell-part (c .before .before .before .before .before .before .before .before .before .before .before .before .before .before .before .before .before .before .before .before .before .args .rules .now) (c .before .before .before .before .before .before .before .before .before .before .before .before .before .before .before .before .before .before .before .before .before .args .kinds .now) (c .before .before .before .before .before .before .before .before .before .before .before .before .before .before .before .before .before .before .before .before .before .args .having .now) (c .before .before .before .before .before .before .before .before .before .before .before .before .before .before .before .before .before .before .before .before .before .args .state .now) (c .before .before .before .before .before .before .before .before .before .before .before .before .before .before .before .before .before .before .before .before .before .args .user) _ (c .before .before .before .before .before .before .before .before .before .before .before .before .before .before .row-at .result) (c .before .before .before .before .before .before .before .before .before .before .before .before .before .before .row-at .ensures) (c .before .before .before .before .before .before .before .before .before .before .before .before .before .before .before .before .loop .asked) _ _ (c .before .before .before .before .before .before .before .ask-row .ensures .grown (c .before .before .before .before .before .before .before .before .before .before .before .before .before .before .before .before .before .before .before .before .before .args .kinds .now) (c .before .before .before .before .before .before .before .before .before .before .before .before .before .before .before .before .loop .inv .2)) (c .before .before .certificates-reach .ensures))))
+roles-reach-returns-2 t c = c .before .before .before .before .before .before .before .before .before .before .before .before .before .before .before .before .loop .inv .3 _ (back (withoutRights (c .before .before .before .before .before .before .before .before .before .before .before .before .before .before .before .before .before .before .before .before .before .args .rules .now) (c .before .before .before .before .before .before .before .before .before .before .before .before .before .before .before .before .before .before .before .before .before .args .kinds .now)) (c .before .before .before .before .before .before .before .before .before .before .before .before .before .before .before .before .before .before .before .before .before .args .having .now) (c .before .before .before .before .before .before .before .before .before .before .before .before .before .before .before .before .before .before .before .before .before .args .state .now) (c .before .before .before .before .before .before .before .before .before .before .before .before .before .before .before .before .before .before .before .before .before .args .user) (c .before .before .before .before .before .before .before .before .before .before .before .before .before .before .before .before .loop .asked) (c .before .before .before .before .before .before .before .before .before .before .before .before .before .before .before .before .loop .i) _ (c .before .before .before .before .before .before .before .before .before .before .before .before .before .before .before .loop-test .taken) (tell-row (withoutRights (c .before .before .before .before .before .before .before .before .before .before .before .before .before .before .before .before .before .before .before .before .before .args .rules .now) (c .before .before .before .before .before .before .before .before .before .before .before .before .before .before .before .before .before .before .before .before .before .args .kinds .now)) (c .before .before .before .before .before .before .before .before .before .before .before .before .before .before .before .before .before .before .before .before .before .args .having .now) (c .before .before .before .before .before .before .before .before .before .before .before .before .before .before .before .before .before .before .before .before .before .args .state .now) (c .before .before .before .before .before .before .before .before .before .before .before .before .before .before .before .before .before .before .before .before .before .args .user) (c .before .before .before .before .before .before .before .before .before .before .before .before .before .before .before .before .loop .asked) _ (c .before .before .before .before .before .before .before .before .before .before .before .before .before .before .row-at .result) (c .before .before .before .before .before .before .before .before .before .before .before .before .before .before .row-at .ensures) (subst⁻¹ (λ (r : Row). r .role < 256) (c .before .before .before .before .before .before .before .before .before .before .before .before .before .before .row-at .ensures) (c .before .before .before .before .before .before .before .before .before .before .before .before .before .before .before .before .before .before .before .before .before .pre .1 .0 .fits _ (omega (arith, c .before .before .before .before .before .before .before .before .before .before .before .before .before .before .before .before .before .before .before .before .before .pre .1 .1, c .before .before .before .before .before .before .before .before .before .before .before .before .before .before .before .before .loop .inv .0, c .before .before .before .before .before .before .before .before .before .before .before .before .before .before .before .loop-test .taken)))) (sym (c .before .before .before .before .before .before .before .before .before .before .before .before .is-asked .ensures) ∙ not-false _ (c .before .before .before .before .before .before .before .before .before .before .before .if1 .left)) (c .before .before .before .before .before .before .before .before .before .before .before .before .before .before .before .before .before .before .before .before .before .pre .1 .0) (omega (arith, c .before .before .before .before .before .before .before .before .before .before .before .before .before .before .before .before .before .before .before .before .before .pre .1 .1, c .before .before .before .before .before .before .before .before .before .before .before .before .before .before .before .before .loop .inv .0, c .before .before .before .before .before .before .before .before .before .before .before .before .before .before .before .loop-test .taken)) _ (sym (c .before .before .before .before .before .before .before .before .before .before .has-right .ensures) ∙ c .before .before .before .before .before .before .before .before .before .if2 .left) (tell-part (c .before .before .before .before .before .before .before .before .before .before .before .before .before .before .before .before .before .before .before .before .before .args .rules .now) (c .before .before .before .before .before .before .before .before .before .before .before .before .before .before .before .before .before .before .before .before .before .args .kinds .now) (c .before .before .before .before .before .before .before .before .before .before .before .before .before .before .before .before .before .before .before .before .before .args .having .now) (c .before .before .before .before .before .before .before .before .before .before .before .before .before .before .before .before .before .before .before .before .before .args .state .now) (c .before .before .before .before .before .before .before .before .before .before .before .before .before .before .before .before .before .before .before .before .before .args .user) _ (c .before .before .before .before .before .before .before .before .before .before .before .before .before .before .row-at .result) (c .before .before .before .before .before .before .before .before .before .before .before .before .before .before .row-at .ensures) (c .before .before .before .before .before .before .before .before .before .before .before .before .before .before .before .before .loop .asked) _ _ (c .before .before .before .before .before .before .before .ask-row .ensures .grown (c .before .before .before .before .before .before .before .before .before .before .before .before .before .before .before .before .before .before .before .before .before .args .kinds .now) (c .before .before .before .before .before .before .before .before .before .before .before .before .before .before .before .before .loop .inv .2)) (c .before .before .certificates-reach .ensures))))
 
 roles-reach-loop-less-2 : (t : ℕ) → roles-reach-lts.Need-loop-less-2 (calls-roles-reach t) (roles-reach-at t) roles-reach.Post roles-reach-Inv-loop roles-reach-μ-loop
 roles-reach-loop-less-2 t c = search needs
 
 roles-reach-loop-again-2 : (t : ℕ) → roles-reach-lts.Need-loop-again-2 (calls-roles-reach t) (roles-reach-at t) roles-reach.Post roles-reach-Inv-loop roles-reach-μ-loop
-roles-reach-loop-again-2 t c = (omega (arith, c .before .before .before .before .before .before .before .before .before .before .before .before .loop .inv .0), (c .before .before .before .ask-row .ensures .grown (c .before .before .before .before .before .before .before .before .before .before .before .before .before .before .before .before .before .args .kinds .now) (c .before .before .before .before .before .before .before .before .before .before .before .before .loop .inv .2)) .size ∙ c .before .before .before .before .before .before .before .before .before .before .before .before .loop .inv .1, (c .before .before .before .ask-row .ensures .grown (c .before .before .before .before .before .before .before .before .before .before .before .before .before .before .before .before .before .args .kinds .now) (c .before .before .before .before .before .before .before .before .before .before .before .before .loop .inv .2)) .closed, λ r h. c .before .before .before .before .before .before .before .before .before .before .before .before .loop .inv .3 _ (back (without-rights (c .before .before .before .before .before .before .before .before .before .before .before .before .before .before .before .before .before .args .rules .now) (c .before .before .before .before .before .before .before .before .before .before .before .before .before .before .before .before .before .args .kinds .now)) (c .before .before .before .before .before .before .before .before .before .before .before .before .before .before .before .before .before .args .having .now) (c .before .before .before .before .before .before .before .before .before .before .before .before .before .before .before .before .before .args .state .now) (c .before .before .before .before .before .before .before .before .before .before .before .before .before .before .before .before .before .args .user) (c .before .before .before .before .before .before .before .before .before .before .before .before .loop .asked) (c .before .before .before .before .before .before .before .before .before .before .before .before .loop .i) _ (c .before .before .before .before .before .before .before .before .before .before .before .loop-test .taken) (tell-row (without-rights (c .before .before .before .before .before .before .before .before .before .before .before .before .before .before .before .before .before .args .rules .now) (c .before .before .before .before .before .before .before .before .before .before .before .before .before .before .before .before .before .args .kinds .now)) (c .before .before .before .before .before .before .before .before .before .before .before .before .before .before .before .before .before .args .having .now) (c .before .before .before .before .before .before .before .before .before .before .before .before .before .before .before .before .before .args .state .now) (c .before .before .before .before .before .before .before .before .before .before .before .before .before .before .before .before .before .args .user) (c .before .before .before .before .before .before .before .before .before .before .before .before .loop .asked) _ (c .before .before .before .before .before .before .before .before .before .before .row-at .result) (c .before .before .before .before .before .before .before .before .before .before .row-at .ensures) (subst⁻¹ (λ (r : Row). r .role < 256) (c .before .before .before .before .before .before .before .before .before .before .row-at .ensures) (c .before .before .before .before .before .before .before .before .before .before .before .before .before .before .before .before .before .pre .1 .0 .fits _ (omega (arith, c .before .before .before .before .before .before .before .before .before .before .before .before .before .before .before .before .before .pre .1 .1, c .before .before .before .before .before .before .before .before .before .before .before .before .loop .inv .0, c .before .before .before .before .before .before .before .before .before .before .before .loop-test .taken)))) (sym (c .before .before .before .before .before .before .before .before .is-asked .ensures) ∙ not-false _ (c .before .before .before .before .before .before .before .if1 .left)) (c .before .before .before .before .before .before .before .before .before .before .before .before .before .before .before .before .before .pre .1 .0) (omega (arith, c .before .before .before .before .before .before .before .before .before .before .before .before .before .before .before .before .before .pre .1 .1, c .before .before .before .before .before .before .before .before .before .before .before .before .loop .inv .0, c .before .before .before .before .before .before .before .before .before .before .before .loop-test .taken)) _ (sym (c .before .before .before .before .before .before .has-right .ensures) ∙ c .before .before .before .before .before .if2 .left) (tell-all (c .before .before .before .before .before .before .before .before .before .before .before .before .before .before .before .before .before .args .rules .now) (c .before .before .before .before .before .before .before .before .before .before .before .before .before .before .before .before .before .args .kinds .now) (c .before .before .before .before .before .before .before .before .before .before .before .before .before .before .before .before .before .args .having .now) (c .before .before .before .before .before .before .before .before .before .before .before .before .before .before .before .before .before .args .state .now) (c .before .before .before .before .before .before .before .before .before .before .before .before .before .before .before .before .before .args .user) _ (c .before .before .before .before .before .before .before .before .before .before .row-at .result) (c .before .before .before .before .before .before .before .before .before .before .row-at .ensures) (c .before .before .before .before .before .before .before .before .before .before .before .before .loop .asked) _ (c .before .before .before .before .before .before .before .before .before .before .before .before .before .before .before .before .before .pre .1 .0) (omega (arith, c .before .before .before .before .before .before .before .before .before .before .before .before .before .before .before .before .before .pre .1 .1, c .before .before .before .before .before .before .before .before .before .before .before .before .loop .inv .0)) r (c .before .before .before .ask-row .ensures .grown (c .before .before .before .before .before .before .before .before .before .before .before .before .before .before .before .before .before .args .kinds .now) (c .before .before .before .before .before .before .before .before .before .before .before .before .loop .inv .2)) (c .before .before .before .ask-row .ensures .each (not-false _ (c .if3 .left)) (c .before .before .before .before .before .before .before .before .before .before .before .before .before .before .before .before .before .args .kinds .now) (c .before .before .before .before .before .before .before .before .before .before .before .before .loop .inv .2)) h))))
+roles-reach-loop-again-2 t c = (omega (arith, c .before .before .before .before .before .before .before .before .before .before .before .before .loop .inv .0), (c .before .before .before .ask-row .ensures .grown (c .before .before .before .before .before .before .before .before .before .before .before .before .before .before .before .before .before .args .kinds .now) (c .before .before .before .before .before .before .before .before .before .before .before .before .loop .inv .2)) .size ∙ c .before .before .before .before .before .before .before .before .before .before .before .before .loop .inv .1, (c .before .before .before .ask-row .ensures .grown (c .before .before .before .before .before .before .before .before .before .before .before .before .before .before .before .before .before .args .kinds .now) (c .before .before .before .before .before .before .before .before .before .before .before .before .loop .inv .2)) .closed, λ r h. c .before .before .before .before .before .before .before .before .before .before .before .before .loop .inv .3 _ (back (withoutRights (c .before .before .before .before .before .before .before .before .before .before .before .before .before .before .before .before .before .args .rules .now) (c .before .before .before .before .before .before .before .before .before .before .before .before .before .before .before .before .before .args .kinds .now)) (c .before .before .before .before .before .before .before .before .before .before .before .before .before .before .before .before .before .args .having .now) (c .before .before .before .before .before .before .before .before .before .before .before .before .before .before .before .before .before .args .state .now) (c .before .before .before .before .before .before .before .before .before .before .before .before .before .before .before .before .before .args .user) (c .before .before .before .before .before .before .before .before .before .before .before .before .loop .asked) (c .before .before .before .before .before .before .before .before .before .before .before .before .loop .i) _ (c .before .before .before .before .before .before .before .before .before .before .before .loop-test .taken) (tell-row (withoutRights (c .before .before .before .before .before .before .before .before .before .before .before .before .before .before .before .before .before .args .rules .now) (c .before .before .before .before .before .before .before .before .before .before .before .before .before .before .before .before .before .args .kinds .now)) (c .before .before .before .before .before .before .before .before .before .before .before .before .before .before .before .before .before .args .having .now) (c .before .before .before .before .before .before .before .before .before .before .before .before .before .before .before .before .before .args .state .now) (c .before .before .before .before .before .before .before .before .before .before .before .before .before .before .before .before .before .args .user) (c .before .before .before .before .before .before .before .before .before .before .before .before .loop .asked) _ (c .before .before .before .before .before .before .before .before .before .before .row-at .result) (c .before .before .before .before .before .before .before .before .before .before .row-at .ensures) (subst⁻¹ (λ (r : Row). r .role < 256) (c .before .before .before .before .before .before .before .before .before .before .row-at .ensures) (c .before .before .before .before .before .before .before .before .before .before .before .before .before .before .before .before .before .pre .1 .0 .fits _ (omega (arith, c .before .before .before .before .before .before .before .before .before .before .before .before .before .before .before .before .before .pre .1 .1, c .before .before .before .before .before .before .before .before .before .before .before .before .loop .inv .0, c .before .before .before .before .before .before .before .before .before .before .before .loop-test .taken)))) (sym (c .before .before .before .before .before .before .before .before .is-asked .ensures) ∙ not-false _ (c .before .before .before .before .before .before .before .if1 .left)) (c .before .before .before .before .before .before .before .before .before .before .before .before .before .before .before .before .before .pre .1 .0) (omega (arith, c .before .before .before .before .before .before .before .before .before .before .before .before .before .before .before .before .before .pre .1 .1, c .before .before .before .before .before .before .before .before .before .before .before .before .loop .inv .0, c .before .before .before .before .before .before .before .before .before .before .before .loop-test .taken)) _ (sym (c .before .before .before .before .before .before .has-right .ensures) ∙ c .before .before .before .before .before .if2 .left) (tell-all (c .before .before .before .before .before .before .before .before .before .before .before .before .before .before .before .before .before .args .rules .now) (c .before .before .before .before .before .before .before .before .before .before .before .before .before .before .before .before .before .args .kinds .now) (c .before .before .before .before .before .before .before .before .before .before .before .before .before .before .before .before .before .args .having .now) (c .before .before .before .before .before .before .before .before .before .before .before .before .before .before .before .before .before .args .state .now) (c .before .before .before .before .before .before .before .before .before .before .before .before .before .before .before .before .before .args .user) _ (c .before .before .before .before .before .before .before .before .before .before .row-at .result) (c .before .before .before .before .before .before .before .before .before .before .row-at .ensures) (c .before .before .before .before .before .before .before .before .before .before .before .before .loop .asked) _ (c .before .before .before .before .before .before .before .before .before .before .before .before .before .before .before .before .before .pre .1 .0) (omega (arith, c .before .before .before .before .before .before .before .before .before .before .before .before .before .before .before .before .before .pre .1 .1, c .before .before .before .before .before .before .before .before .before .before .before .before .loop .inv .0)) r (c .before .before .before .ask-row .ensures .grown (c .before .before .before .before .before .before .before .before .before .before .before .before .before .before .before .before .before .args .kinds .now) (c .before .before .before .before .before .before .before .before .before .before .before .before .loop .inv .2)) (c .before .before .before .ask-row .ensures .each (not-false _ (c .if3 .left)) (c .before .before .before .before .before .before .before .before .before .before .before .before .before .before .before .before .before .args .kinds .now) (c .before .before .before .before .before .before .before .before .before .before .before .before .loop .inv .2)) h))))
 
 roles-reach-same-length-3 : (t : ℕ) → roles-reach-lts.Need-same-length-3 (calls-roles-reach t) (roles-reach-at t) roles-reach.Post roles-reach-Inv-loop roles-reach-μ-loop
 roles-reach-same-length-3 t c = c .before .loop .inv .1 ∙ sym (c .before .before .before .before .before .before .pre .1 .2)
 
 roles-reach-returns-3 : (t : ℕ) → roles-reach-lts.Need-returns-3 (calls-roles-reach t) (roles-reach-at t) roles-reach.Post roles-reach-Inv-loop roles-reach-μ-loop
-roles-reach-returns-3 t c = c .before .loop .inv .3 _ (tell-none (without-rights (c .before .before .before .before .before .before .args .rules .now) (c .before .before .before .before .before .before .args .kinds .now)) (c .before .before .before .before .before .before .args .having .now) (c .before .before .before .before .before .before .args .state .now) (c .before .before .before .before .before .before .args .user) (c .before .loop .asked) (c .before .loop .i) (c .loop-test .left))
+roles-reach-returns-3 t c = c .before .loop .inv .3 _ (tell-none (withoutRights (c .before .before .before .before .before .before .args .rules .now) (c .before .before .before .before .before .before .args .kinds .now)) (c .before .before .before .before .before .before .args .having .now) (c .before .before .before .before .before .before .args .state .now) (c .before .before .before .before .before .before .args .user) (c .before .loop .asked) (c .before .loop .i) (c .loop-test .left))
 
 pub +certificates-reach+roles-reach-spec : {M : Type 1} → statement M
 +certificates-reach+roles-reach-spec =

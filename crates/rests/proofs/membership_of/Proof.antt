@@ -4,7 +4,7 @@ use mathlib.Core.List.{[]}
 use native.Mathlib.Omega.{arith}
 use Rattle.model.specs.Layout.{policyOf}
 use Rattle.model.specs.Conditions.{ruleNumbered}
-use Rattle.table.specs.Entries.{without-rights}
+use Rattle.table.specs.Entries.{withoutRights}
 use Rattle.rests.proofs.Asking.{own-rule}
 use borrow.Author.Needs.{needs}
 use Rattle.rests.proofs.membership_of.Statement.{statement}
@@ -23,7 +23,7 @@ least-requires : tie.Need-least-requires
 least-requires c κs = search needs
 
 returns : tie.Need-returns
-returns c = (omega (arith, c .least .ensures), own-rule (c .before .before .before .before .before .before .args .rules .now) (c .before .before .before .before .before .before .args .row) (c .before .before .before .rule-numbered .result) _ (c .before .before .before .rule-numbered .ensures ∙ ap (λ (n : ℕ). ruleNumbered (policyOf (without-rights (c .before .before .before .before .before .before .args .rules .now) [])) n) (c .before .before .before .before .wide .ensures)) (search needs) (c .least .ensures ∙ ap (λ (n : ℕ). min n 8) (c .before .wide2 .ensures)))
+returns c = (omega (arith, c .least .ensures), own-rule (c .before .before .before .before .before .before .args .rules .now) (c .before .before .before .before .before .before .args .row) (c .before .before .before .rule-numbered .result) _ (c .before .before .before .rule-numbered .ensures ∙ ap (λ (n : ℕ). ruleNumbered (policyOf (withoutRights (c .before .before .before .before .before .before .args .rules .now) [])) n) (c .before .before .before .before .wide .ensures)) (search needs) (c .least .ensures ∙ ap (λ (n : ℕ). min n 8) (c .before .wide2 .ensures)))
 
 pub membership-of-spec : {M : Type 1} → statement M
 membership-of-spec =

@@ -7,14 +7,14 @@ use lib.ListN.{length, take}
 use Rattle.model.specs.Lists.{joined}
 use Rattle.model.specs.Layout.{policyOf}
 use Rattle.model.specs.Conditions.{meant, rolesAsked}
-use Rattle.table.specs.Entries.{without-rights}
+use Rattle.table.specs.Entries.{withoutRights}
 use Rattle.rests.proofs.Stepping.{step-more, step-found, step-none}
 use borrow.Author.Needs.{needs}
 use Rattle.rests.proofs.next_role.Statement.{statement}
 use Rattle.rests.proofs.next_role.Tie as tie
 
 abbrev Inv-loop : tie.InvT-loop
-Inv-loop rules kinds conditions m i₀ i = (i ≤ m) × (joined (λ (c : ℕ). rolesAsked (policyOf (without-rights [] kinds)) (meant c)) (take i conditions) ≡ [])
+Inv-loop rules kinds conditions m i₀ i = (i ≤ m) × (joined (λ (c : ℕ). rolesAsked (policyOf (withoutRights [] kinds)) (meant c)) (take i conditions) ≡ [])
 
 abbrev μ-loop : tie.MeasureT-loop
 μ-loop rules kinds conditions m i₀ i = m - i

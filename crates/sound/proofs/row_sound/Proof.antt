@@ -11,7 +11,7 @@ use Rattle.model.specs.Conditions.{ruleNumbered}
 use Rattle.model.specs.Sound.{rowClauses}
 use Rattle.model.specs.declared.Rule.{Rule}
 use Rattle.model.specs.declared.Row.{Row}
-use Rattle.table.specs.Entries.{worldAt, without-rights, firstRows}
+use Rattle.table.specs.Entries.{worldAt, withoutRights, firstRows}
 use Rattle.table.proofs.Entries.{length-entries}
 use Rattle.policy.proofs.Clauses.{here, later, fails-at, passes-at}
 use Rattle.index.proofs.Indexing.{row-in-range, active-there, supported-there, rows-on}
@@ -71,7 +71,7 @@ returns-3 : tie.Need-returns-3
 unfolding rowClauses policyOf
 returns-3 c = (
   fails-at (rowClauses (worldAt (c .before .before .before .before .before .before .before .before .before .before .before .before .before .before .before .before .before .args .rules .now) (c .before .before .before .before .before .before .before .before .before .before .before .before .before .before .before .before .before .args .kinds .now) (c .before .before .before .before .before .before .before .before .before .before .before .before .before .before .before .before .before .args .state .now)) (firstRows (c .before .before .before .before .before .before .before .before .before .before .before .before .before .before .before .before .before .args .state .now) (c .before .before .before .before .before .before .before .before .before .before .before .before .before .before .before .before .before .args .i))) (c .before .before .before .before .before .before .before .before .before .before .before .row-at .ensures)
-      (later (later (later (later (here (ap (λ (x : Rule). eqb (x .target) (c .before .before .before .before .before .before .before .before .before .before .before .row-at .result .role)) (sym (c .before .before .before .rule-numbered .ensures ∙ ap (λ (n : ℕ). ruleNumbered (policyOf (without-rights (c .before .before .before .before .before .before .before .before .before .before .before .before .before .before .before .before .before .args .rules .now) [])) n) (c .before .before .before .before .before .wide2 .ensures))) ∙ ne-eqb _ _ (c .if3 .taken))))))),
+      (later (later (later (later (here (ap (λ (x : Rule). eqb (x .target) (c .before .before .before .before .before .before .before .before .before .before .before .row-at .result .role)) (sym (c .before .before .before .rule-numbered .ensures ∙ ap (λ (n : ℕ). ruleNumbered (policyOf (withoutRights (c .before .before .before .before .before .before .before .before .before .before .before .before .before .before .before .before .before .args .rules .now) [])) n) (c .before .before .before .before .before .wide2 .ensures))) ∙ ne-eqb _ _ (c .if3 .taken))))))),
   λ e. absurd (false≢true e),
 )
 
@@ -111,7 +111,7 @@ returns-5 c =
             (
               ap (ltb (c .before .before .before .before .before .before .before .before .before .before .before .before .before .before .before .before .before .before .row-at .result .rule)) (length-entries ruleFrom 11 (c .before .before .before .before .before .before .before .before .before .before .before .before .before .before .before .before .before .before .before .before .before .before .before .before .args .rules .now) (length (c .before .before .before .before .before .before .before .before .before .before .before .before .before .before .before .before .before .before .before .before .before .before .before .before .args .rules .now) / 11)) ∙ lt-ltb (c .before .before .before .before .before .before .before .before .before .before .before .before .before .before .before .before .before .before .row-at .result .rule) (length (c .before .before .before .before .before .before .before .before .before .before .before .before .before .before .before .before .before .before .before .before .before .before .before .before .args .rules .now) / 11) (omega (arith, c .before .before .before .before .before .before .before .before .before .before .before .before .wide2 .ensures)),
               (
-                ap (λ (x : Rule). eqb (x .target) (c .before .before .before .before .before .before .before .before .before .before .before .before .before .before .before .before .before .before .row-at .result .role)) (sym (c .before .before .before .before .before .before .before .before .before .before .rule-numbered .ensures ∙ ap (λ (n : ℕ). ruleNumbered (policyOf (without-rights (c .before .before .before .before .before .before .before .before .before .before .before .before .before .before .before .before .before .before .before .before .before .before .before .before .args .rules .now) [])) n) (c .before .before .before .before .before .before .before .before .before .before .before .before .wide2 .ensures))) ∙ eq-eqb _ _ (c .before .before .before .before .before .before .before .if3 .left),
+                ap (λ (x : Rule). eqb (x .target) (c .before .before .before .before .before .before .before .before .before .before .before .before .before .before .before .before .before .before .row-at .result .role)) (sym (c .before .before .before .before .before .before .before .before .before .before .rule-numbered .ensures ∙ ap (λ (n : ℕ). ruleNumbered (policyOf (withoutRights (c .before .before .before .before .before .before .before .before .before .before .before .before .before .before .before .before .before .before .before .before .before .before .before .before .args .rules .now) [])) n) (c .before .before .before .before .before .before .before .before .before .before .before .before .wide2 .ensures))) ∙ eq-eqb _ _ (c .before .before .before .before .before .before .before .if3 .left),
                 (sym (supported-there (c .before .before .before .before .before .before .before .before .before .before .before .before .before .before .before .before .before .before .before .before .before .before .before .before .args .numbers .now) (c .before .before .before .before .before .before .before .before .before .before .before .before .before .before .before .before .before .before .before .before .before .before .before .before .args .words .now) (firstRows (c .before .before .before .before .before .before .before .before .before .before .before .before .before .before .before .before .before .before .before .before .before .before .before .before .args .state .now) (c .before .before .before .before .before .before .before .before .before .before .before .before .before .before .before .before .before .before .before .before .before .before .before .before .args .i)) (worldAt (c .before .before .before .before .before .before .before .before .before .before .before .before .before .before .before .before .before .before .before .before .before .before .before .before .args .rules .now) (c .before .before .before .before .before .before .before .before .before .before .before .before .before .before .before .before .before .before .before .before .before .before .before .before .args .kinds .now) (c .before .before .before .before .before .before .before .before .before .before .before .before .before .before .before .before .before .before .before .before .before .before .before .before .args .state .now)) (c .before .before .before .before .before .before .before .before .before .before .before .before .before .before .before .before .before .before .before .before .before .before .before .before .pre .2) (c .before .before .before .before .before .before .before .before .before .before .before .before .before .before .before .before .before .before .row-at .result .user) (c .before .before .before .before .before .before .before .before .before .before .before .before .before .before .before .before .before .base-of .result) (c .before .before .before .before .before .before .before .before .before .before .before .before .before .before .before .before .before .base-of .ensures) known (c .before .before .before .before .before .before .before .before .before .before .before .before .before .before .before .before .before .before .row-at .result) refl) ∙ sym (c .before .before .before .before .before .row-supported .ensures) ∙ not-false _ (c .before .before .before .before .if4 .left), tt),
               ),
             ),

@@ -6,7 +6,7 @@ use borrow.Author.Tests.{not-true, not-false}
 use Rattle.model.specs.Lists.{every, allOverEarlier}
 use Rattle.model.specs.Layout.{decode, policyOf}
 use Rattle.model.specs.Sound.{wellFormed, certificateSound, rowSound, soundRecords, sound}
-use Rattle.table.specs.Entries.{without-rights, worldAt}
+use Rattle.table.specs.Entries.{withoutRights, worldAt}
 use Rattle.table.proofs.Entries.{sized}
 use Rattle.policy.specs.Lent.{kindsOnly}
 use Rattle.policy.proofs.Clauses.{here, later, fails, passes}
@@ -20,9 +20,9 @@ module _ (rules kinds s : List ℕ) where
   abbrev clauses : List Bool
   clauses = wellFormed s ∷ allOverEarlier (certificateSound (kindsOnly kinds)) [] (decode s .certificates) ∷ allOverEarlier (rowSound (worldAt rules kinds s)) [] (decode s .rows) ∷ []
 
-  whole : every clauses ≡ sound (policyOf (without-rights rules kinds)) s
+  whole : every clauses ≡ sound (policyOf (withoutRights rules kinds)) s
   unfolding sound soundRecords policyOf
-  whole = λ i. wellFormed s && (certificates-same (kindsOnly kinds) (policyOf (without-rights rules kinds)) refl (decode s .certificates) i && and-true (allOverEarlier (rowSound (worldAt rules kinds s)) [] (decode s .rows)) i)
+  whole = λ i. wellFormed s && (certificates-same (kindsOnly kinds) (policyOf (withoutRights rules kinds)) refl (decode s .certificates) i && and-true (allOverEarlier (rowSound (worldAt rules kinds s)) [] (decode s .rows)) i)
 
 well-formed-requires : tie.Need-well-formed-requires
 well-formed-requires c κs = search needs
