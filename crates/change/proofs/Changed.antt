@@ -15,7 +15,7 @@ use Rattle.model.proofs.Tests.{lt-or-ge}
 use Rattle.table.specs.Entries.{rowAt, firstRows, certificateAt, firstCertificates}
 use Rattle.table.proofs.Entries.{entries-more, row-places, certificate-places, entry-in, length-entries, rows-more}
 use Rattle.fall.specs.Writes.{Moved, Zeroed}
-use Rattle.fall.proofs.Form.{threeAt, makeRow, makeCertificate, Formed, as-encoded, facts-same, certificates-same, rows-all-same, rows-same, certificate-same, certificates-first-same}
+use Rattle.fall.proofs.Form.{threeAt, makeRow, makeCertificate, Formed, as-encoded, facts-kept, certificates-kept, rows-all-same, rows-same, certificate-same, certificates-first-same}
 use Rattle.change.specs.Appended.{Appended}
 
 -- ── one entry more ──
@@ -68,7 +68,7 @@ new-three make s s′ at x y z a = λ j. make ((place (getD s at 0 * 3 + (at + 1
 
 pub row-appended : (s s′ : List ℕ) (r : Row) → Formed s → rowCount s < 256 → Appended s s′ 64 (r .user) (r .role) (r .rule) → s′ ≡ encode (withRows (decode s) (decode s .rows ++ (r ∷ [])))
 unfolding decode firstRows
-row-appended s s′ r f room a = as-encoded s′ (withRows (decode s) (decode s .rows ++ (r ∷ []))) form (λ j. record { facts = facts-same s s′ (a .size) (λ k h. a .below k h) j; rows = rows j; certificates = certificates-same s s′ (a .size) (λ k h. a .above k (omega arith)) j })
+row-appended s s′ r f room a = as-encoded s′ (withRows (decode s) (decode s .rows ++ (r ∷ []))) form (λ j. record { facts = facts-kept s s′ (a .size) (λ k h. a .below k h) j; rows = rows j; certificates = certificates-kept s s′ (a .size) (λ k h. a .above k (omega arith)) j })
   where
     new : rowAt s′ (rowCount s) ≡ r
     new = row-places s′ (rowCount s) room ∙ new-three makeRow s s′ 64 (r .user) (r .role) (r .rule) a
@@ -93,7 +93,7 @@ certificates-more s k = entries-more certificateFrom 3 (certificateNumbers s) k
 
 pub certificate-appended : (s s′ : List ℕ) (c : Certificate) → Formed s → certificateCount s < 256 → Appended s s′ 833 (c .appointee) (c .kind) (c .appointer) → s′ ≡ encode (withCertificates (decode s) (decode s .certificates ++ (c ∷ [])))
 unfolding decode firstCertificates
-certificate-appended s s′ c f room a = as-encoded s′ (withCertificates (decode s) (decode s .certificates ++ (c ∷ []))) form (λ j. record { facts = facts-same s s′ (a .size) (λ k h. a .below k (omega arith)) j; rows = rows-all-same s s′ (a .size) (λ k h l. a .below k l) j; certificates = certificates j })
+certificate-appended s s′ c f room a = as-encoded s′ (withCertificates (decode s) (decode s .certificates ++ (c ∷ []))) form (λ j. record { facts = facts-kept s s′ (a .size) (λ k h. a .below k (omega arith)) j; rows = rows-all-same s s′ (a .size) (λ k h l. a .below k l) j; certificates = certificates j })
   where
     new : certificateAt s′ (certificateCount s) ≡ c
     new = certificate-places s′ (certificateCount s) room ∙ new-three makeCertificate s s′ 833 (c .appointee) (c .kind) (c .appointer) a
@@ -184,7 +184,7 @@ module _ (s m z : List ℕ) (j last : ℕ) (f : Formed s) (h : j < certificateCo
   unfolding s′ decode firstCertificates
   certificate-removed =
       as-encoded s′ (withCertificates (decode s) (take j (decode s .certificates) ++ drop (suc j) (decode s .certificates))) form
-      (λ i. record { facts = facts-same s s′ gone-size (λ k l. low k (omega arith)) i; rows = rows-all-same s s′ gone-size (λ k a l. low k l) i; certificates = (ap (firstCertificates s′) gone-count ∙ entries-left) i })
+      (λ i. record { facts = facts-kept s s′ gone-size (λ k l. low k (omega arith)) i; rows = rows-all-same s s′ gone-size (λ k a l. low k l) i; certificates = (ap (firstCertificates s′) gone-count ∙ entries-left) i })
     where
       form : Formed s′
       form =
@@ -203,7 +203,7 @@ pub fact-set : (s : List ℕ) (i v : ℕ) → Formed s → i < 64 → v ≤ 1 �
 unfolding decode
 fact-set s i v f h l =
     as-encoded (set s i v) (withFact (decode s) i v) form
-    (λ j. record { facts = take-set-lt 64 s i v h j; rows = rows-all-same s (set s i v) (length-set s i v) (λ k a b. other k (omega arith)) j; certificates = certificates-same s (set s i v) (length-set s i v) (λ k a. other k (omega arith)) j })
+    (λ j. record { facts = take-set-lt 64 s i v h j; rows = rows-all-same s (set s i v) (length-set s i v) (λ k a b. other k (omega arith)) j; certificates = certificates-kept s (set s i v) (length-set s i v) (λ k a. other k (omega arith)) j })
   where
     other : (k : ℕ) → k ≢ i → getD (set s i v) k 0 ≡ getD s k 0
     other k n = getD-set-other s i k v 0 n

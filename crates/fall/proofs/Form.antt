@@ -121,12 +121,12 @@ part-same s s′ place n e h =
     let j : i < n = omega (arith, length-take n (drop place s′)) in
     getD-take n (drop place s′) i 0 j ∙ getD-drop place s′ i 0 ∙ h i j ∙ sym (getD-drop place s i 0) ∙ sym (getD-take n (drop place s) i 0 j))
 
-pub facts-same : (s s′ : List ℕ) → length s′ ≡ length s → ((k : ℕ) → k < 64 → getD s′ k 0 ≡ getD s k 0) → factNumbers s′ ≡ factNumbers s
-facts-same s s′ e h = part-same s s′ 0 64 e (λ k l. let q : 0 + k ≡ k = omega arith in ap (λ (n : ℕ). getD s′ n 0) q ∙ h k l ∙ ap (λ (n : ℕ). getD s n 0) (sym q))
+pub facts-kept : (s s′ : List ℕ) → length s′ ≡ length s → ((k : ℕ) → k < 64 → getD s′ k 0 ≡ getD s k 0) → factNumbers s′ ≡ factNumbers s
+facts-kept s s′ e h = part-same s s′ 0 64 e (λ k l. let q : 0 + k ≡ k = omega arith in ap (λ (n : ℕ). getD s′ n 0) q ∙ h k l ∙ ap (λ (n : ℕ). getD s n 0) (sym q))
 
-pub certificates-same : (s s′ : List ℕ) → length s′ ≡ length s → ((k : ℕ) → 833 ≤ k → getD s′ k 0 ≡ getD s k 0) → decode s′ .certificates ≡ decode s .certificates
+pub certificates-kept : (s s′ : List ℕ) → length s′ ≡ length s → ((k : ℕ) → 833 ≤ k → getD s′ k 0 ≡ getD s k 0) → decode s′ .certificates ≡ decode s .certificates
 unfolding decode
-certificates-same s s′ e h = λ i. entries certificateFrom 3 (part-same s s′ 834 768 e (λ k l. h (834 + k) (omega arith)) i) (h 833 (omega arith) i)
+certificates-kept s s′ e h = λ i. entries certificateFrom 3 (part-same s s′ 834 768 e (λ k l. h (834 + k) (omega arith)) i) (h 833 (omega arith) i)
 
 pub rows-all-same : (s s′ : List ℕ) → length s′ ≡ length s → ((k : ℕ) → 64 ≤ k → k < 833 → getD s′ k 0 ≡ getD s k 0) → decode s′ .rows ≡ decode s .rows
 unfolding decode

@@ -23,7 +23,7 @@ use Rattle.index.specs.Indexed.{baseOf, Indexed}
 use Rattle.index.proofs.Indexing.{row-entered}
 use Rattle.fall.specs.Writes.{Moved, Zeroed}
 use Rattle.fall.specs.Changes.{rowPlace, Judged, Swept, Closed, Left}
-use Rattle.fall.proofs.Form.{Formed, as-encoded, facts-same, certificates-same, row-same, rows-same}
+use Rattle.fall.proofs.Form.{Formed, as-encoded, facts-kept, certificates-kept, row-same, rows-same}
 
 pub swept-none : (ok : List Row → Row → Bool) (s : List ℕ) → Swept ok s s 0 0
 unfolding firstRows left
@@ -39,13 +39,13 @@ swept-sized ok s₀ s i w z h p =
     }
 
 pub swept-certificates : (ok : List Row → Row → Bool) (s₀ s : List ℕ) (i w : ℕ) → i ≤ 256 → Swept ok s₀ s i w → decode s .certificates ≡ decode s₀ .certificates
-swept-certificates ok s₀ s i w h p = certificates-same s₀ s (p .size) (λ k l. p .above k (omega arith))
+swept-certificates ok s₀ s i w h p = certificates-kept s₀ s (p .size) (λ k l. p .above k (omega arith))
 
 -- and so conditions are judged against the same world throughout
 pub swept-world : (rules kinds : List ℕ) (ok : List Row → Row → Bool) (s₀ s : List ℕ) (i w : ℕ) → i ≤ 256 → Swept ok s₀ s i w → worldAt rules kinds s ≡ worldAt rules kinds s₀
 unfolding decode
 swept-world rules kinds ok s₀ s i w h p =
-    λ j. record { policy = policyOf (withoutRights rules kinds); facts = facts-same s₀ s (p .size) (λ k l. p .below k (omega arith)) j; certificates = swept-certificates ok s₀ s i w h p j }
+    λ j. record { policy = policyOf (withoutRights rules kinds); facts = facts-kept s₀ s (p .size) (λ k l. p .below k (omega arith)) j; certificates = swept-certificates ok s₀ s i w h p j }
 
 -- a row moved behind the rows kept
 pub kept-rows : (s s′ : List ℕ) (w i : ℕ) → w ≤ i → i < 256 → Moved s s′ (rowPlace i) (rowPlace w) 3 → firstRows s′ (w + 1) ≡ firstRows s w ++ (rowAt s i ∷ [])
@@ -134,10 +134,10 @@ swept-closed ok s₀ s s′ w lost f p c =
     high k h = c .above k h ∙ p .above k h
 
     facts : factNumbers s′ ≡ factNumbers s₀
-    facts = facts-same s₀ s′ size low
+    facts = facts-kept s₀ s′ size low
 
     certificates : decode s′ .certificates ≡ decode s₀ .certificates
-    certificates = certificates-same s₀ s′ size (λ k h. high k (omega (arith, f .rows)))
+    certificates = certificates-kept s₀ s′ size (λ k h. high k (omega (arith, f .rows)))
 
     rows : firstRows s′ (rowCount s′) ≡ left ok (firstRows s₀ (rowCount s₀))
     rows = ap (firstRows s′) (c .count) ∙ rows-same s s′ w (omega (arith, p .within, f .rows)) (λ j a b. c .kept j a b) ∙ p .rows

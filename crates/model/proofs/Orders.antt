@@ -30,7 +30,7 @@ use Rattle.model.proofs.Numbers.{sound-decode, sound-formed, encode-dec
 use Rattle.model.proofs.Refusals.{accepted-or-refused, refused-unchanged, passed-accepted}
 use Rattle.model.proofs.Kept.{sound-rows, sound-certificates, rows-without-user, users-gone}
 use Rattle.model.proofs.Accepted.{fallen-largest, by-user, effect-decoded, accepted-sound}
-use Rattle.model.proofs.Taken.{Within, goneRow, gone-by-user, any-order, facts-one, facts-unnamed, taken-facts, taken-certificates, taken-rows, taken-less, taken-same, unnamed, all-at-once-sound, all-at-once-largest}
+use Rattle.model.proofs.Taken.{Fewer, goneRow, gone-by-user, any-order, facts-one, facts-unnamed, taken-facts, taken-certificates, taken-rows, taken-less, taken-same, unnamed, all-at-once-sound, all-at-once-largest}
 
 -- ── two lists in turn ──
 
@@ -197,7 +197,7 @@ unfolding allAtOnce
 order-free p t {ws} {vs} d = ap (fallen p) (taken-same ws vs (λ test. any-order test d) t)
 
 -- a list with some left out keeps every row that the whole list keeps
-pub fewer-keep : (p : Policy) (t : State) (few many : List Withdrawal) → SoundState p t → Within few many → Sublistᴰ (allAtOnce p t many .rows) (allAtOnce p t few .rows)
+pub fewer-keep : (p : Policy) (t : State) (few many : List Withdrawal) → SoundState p t → Fewer few many → Sublistᴰ (allAtOnce p t many .rows) (allAtOnce p t few .rows)
 unfolding takenAway goneRow
 fewer-keep p t few many h sub =
     less-keeps-more (supported (worldOf p (takenAway few t))) (supported (worldOf p (takenAway many t))) (less-supports p (takenAway many t) (takenAway few t) (taken-less few many sub t)) (goneRow few) (goneRow many)

@@ -27,13 +27,13 @@ use Rattle.model.proofs.Accepted.{fallen-largest}
 -- ── what one list names, another names ──
 
 -- every withdrawal of the first list is one of the second
-abbrev pub Within : List Withdrawal → List Withdrawal → Type 0
-Within few many = (w : Withdrawal) → List·Memᴰ w few → List·Memᴰ w many
+abbrev pub Fewer : List Withdrawal → List Withdrawal → Type 0
+Fewer few many = (w : Withdrawal) → List·Memᴰ w few → List·Memᴰ w many
 
-named : (few many : List Withdrawal) → Within few many → (test : Withdrawal → Bool) → T (any test few) → T (any test many)
+named : (few many : List Withdrawal) → Fewer few many → (test : Withdrawal → Bool) → T (any test few) → T (any test many)
 named few many sub test t = any-map test test few many (λ w m h. (sub w m, h)) t
 
-pub unnamed : (few many : List Withdrawal) → Within few many → (test : Withdrawal → Bool) → T (not (any test many)) → T (not (any test few))
+pub unnamed : (few many : List Withdrawal) → Fewer few many → (test : Withdrawal → Bool) → T (not (any test many)) → T (not (any test few))
 unnamed few many sub test n = not-T (any test few) (λ t. T-not (any test many) n (named few many sub test t))
 
 -- in another order a list names the same
@@ -78,7 +78,7 @@ facts-twice vs ws first (v ∷ l) = λ i. (go (any (namesFact first) vs) (any (n
     go false true = refl
     go false false = refl
 
-facts-fewer : (few many : List Withdrawal) → Within few many → (first : ℕ) (l : List ℕ) (f : ℕ) → T (eqb (getD (factsLeft many first l) f 0) 1) → T (eqb (getD (factsLeft few first l) f 0) 1)
+facts-fewer : (few many : List Withdrawal) → Fewer few many → (first : ℕ) (l : List ℕ) (f : ℕ) → T (eqb (getD (factsLeft many first l) f 0) 1) → T (eqb (getD (factsLeft few first l) f 0) 1)
 facts-fewer few many sub first [] f t = t
 facts-fewer few many sub first (v ∷ l) zero t = go (any (namesFact first) few) (any (namesFact first) many) (named few many sub (namesFact first)) t
   where
@@ -152,7 +152,7 @@ unfolding takenAway
 taken-part ws t = without-part (λ (c : Certificate). any (namesCertificate c) ws) (t .certificates)
 
 -- a longer list leaves no more
-pub taken-less : (few many : List Withdrawal) → Within few many → (t : State) → Less (takenAway many t) (takenAway few t)
+pub taken-less : (few many : List Withdrawal) → Fewer few many → (t : State) → Less (takenAway many t) (takenAway few t)
 unfolding takenAway
 taken-less few many sub t =
     record {

@@ -27,9 +27,9 @@ module _ (t : Tables) (s : List ℕ) (h : Sound t s) where
 
   -- ── each row is sound over those before it ──
 
-  all-sound : T (allOverEarlier (rowSound world) [] (firstRows s (rowCount s)))
+  rows-sound-all : T (allOverEarlier (rowSound world) [] (firstRows s (rowCount s)))
   unfolding decode firstRows
-  all-sound = sound-rows (policyOf t) (decode s) (sound-decode (policyOf t) s (h .state))
+  rows-sound-all = sound-rows (policyOf t) (decode s) (sound-decode (policyOf t) s (h .state))
 
   sound-upto : (n : ℕ) → T (allOverEarlier (rowSound world) [] (firstRows s n)) → (k : ℕ) → k < n → T (rowSound world (firstRows s k) (rowAt s k))
   sound-upto zero v k l = absurd (omega arith)
@@ -46,7 +46,7 @@ module _ (t : Tables) (s : List ℕ) (h : Sound t s) where
           (and-left (rowSound world (firstRows s n) (rowAt s n)) true (and-right (allOverEarlier (rowSound world) [] (firstRows s n)) (rowSound world (firstRows s n) (rowAt s n) && true) split))
 
   pub sound-row : (k : ℕ) → k < rowCount s → T (rowSound world (firstRows s k) (rowAt s k))
-  sound-row k l = sound-upto (rowCount s) all-sound k l
+  sound-row k l = sound-upto (rowCount s) rows-sound-all k l
 
   pub roles-fit : RolesFit s
   roles-fit k l = ltb→lt (rowAt s k .role) 256 (row-role world (firstRows s k) (rowAt s k) (sound-row k l))
