@@ -1,6 +1,6 @@
 //! The ten calls on raw tables and a raw state.
 //!
-//! In each call the refusals stand in the order of their codes: "1, 2, 3 come
+//! In each call the refusals stand in the outline's order: "1, 2, 3 come
 //! first, then: activate 4, 5, 6; appoint 7, 8, 6; revoke 9, 10; effective 12;
 //! chain 12, 11."
 

@@ -129,6 +129,7 @@ pub fn fall(rules: &[u16], kinds: &[u16], state: &mut [u16]) -> u16
     let n = table::wide(state[ROW_COUNT]);
     let mut numbers = [0u16; 4096];
     index::number_users(state, &mut numbers);
+    // 257 blocks of 384 marks: one for each number that a row may give its user, and block 0, which is nobody's.
     let mut words = [0u16; 6168];
     index::enter_certificates(state, &numbers, &mut words);
     let w = sweep(rules, kinds, state, &numbers, &mut words, n);

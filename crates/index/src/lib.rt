@@ -1,5 +1,6 @@
 // Judging conditions by marks. Each user has a block of 384 marks, one for each condition that is a role or a kind: the roles that he is
-// active in, then the kinds that stand for him. So a condition is judged in as many steps as it asks for roles, however many rows there are.
+// active in, then the kinds that stand for him. So a condition is judged in as many steps as it asks for roles, however many rows there
+// are.
 ghost use mathlib.Core.Path.{_≡_};
 ghost use mathlib.Core.Bool.{_&&_};
 ghost use mathlib.Core.List.{[]};

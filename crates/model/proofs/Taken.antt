@@ -1,5 +1,5 @@
--- Taking away what a list of withdrawals names: it keeps the form of a state, it takes no more from a longer list's point of view, and
--- taking away two lists in turn is taking away both at once. All at once then leaves a sound state.
+-- Taking away what a list of withdrawals names: it keeps the form of a state, a longer list leaves no more, and taking away
+-- two lists in turn is taking away both at once, but for what falls. All at once then leaves a sound state.
 use Prim.Native.Nat.{ℕ, zero, suc, _-_, _≤_, _<_}
 use mathlib.Core.Path.{_≡_, refl, sym, ap, _∙_, subst, subst⁻¹}
 use mathlib.Core.Bool.{Bool, true, false, not, _||_, cond}

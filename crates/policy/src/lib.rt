@@ -45,8 +45,8 @@ fn end_of_kinds(kinds: &[u16]) -> u16
     (256 + kinds.len() / KIND_WIDTH) as u16
 }
 
-// "0 to 255 role; 256 to 383 certificate kind .., which must be a row of the kinds table; 384 to 447 fact; 448 and above malformed."
-// The facts are the numbers that have 64 six times.
+// "0 to 255 a role; 256 to 383 certificate kind .., which must be a row of the kinds table; 384 to 447 environment fact ..; 448 and above
+// malformed." The facts are the numbers that have 64 six times.
 fn condition_fits(kinds: &[u16], c: u16) -> bool
     requires { ⌜ length (now kinds) / 7 ≤ mostKinds ⌝ }
     ensures { λ r. ⌜ r ≡ conditionFits (kindsOnly (now (kinds .entry))) (meant c) ⌝ }

@@ -1,6 +1,6 @@
--- A reader that is passed by value: what it owns, and how it is taken apart for a callee that takes the slice and the number that it holds.
--- The struct is Copy: what it owns is had twice, one copy is kept whole for the exit, and of the other what text owns goes to the callee, beside the lifetime's token.
--- Assumes nothing.
+-- A reader that is passed by value: what it owns, and how it is taken apart for a callee that takes the slice and the number that it
+-- holds. The struct is Copy: what it owns is had twice, one copy is kept whole for the exit, and of the other what text owns goes to
+-- the callee, beside the lifetime's token. Assumes nothing.
 use mathlib.Core.Path.{_≡_, refl}
 use Prim.Native.Nat.{_<_, _^_}
 use mathlib.Core.List.{[], _∷_}

@@ -1,6 +1,7 @@
--- A function with plain parameters that makes a reader of them: the call of `new`. What it is passed, what it asks, and what is known of its result.
--- A `&[u8]` is Copy, so what it owns is had twice: once for the call, and once for the exit. In a local of a body MIR erases the lifetime of the struct's type, so a value is shown to have the type at `erased`: what is owned does not say the lifetime's name.
--- Assumes nothing.
+-- A function with plain parameters that makes a reader of them: the call of `new`. What it is passed, what it asks, and what is known
+-- of its result. A `&[u8]` is Copy, so what it owns is had twice: once for the call, and once for the exit. In a local of a body MIR
+-- erases the lifetime of the struct's type, so a value is shown to have the type at `erased`: what is owned does not say the lifetime's
+-- name. Assumes nothing.
 use mathlib.Core.Path.{_≡_}
 use Prim.Native.Nat.{ℕ}
 use mathlib.Core.List.{List, [], _∷_}

@@ -1,6 +1,6 @@
--- A function that takes a reader apart and hands back the part of the text that a callee hands back for the slice and the number: a walk of its MIR, by hand, for any callee.
--- All that the proof knows of the callee is that it meets its contract: the part's bytes are f of the text's bytes and the place. Then they are f of what the reader holds.
--- Assumes nothing.
+-- A function that takes a reader apart and hands back the part of the text that a callee hands back for the slice and the number: a
+-- walk of its MIR, by hand, for any callee. All that the proof knows of the callee is that it meets its contract: the part's bytes are
+-- f of the text's bytes and the place. Then they are f of what the reader holds. Assumes nothing.
 use mathlib.Core.Path.{_≡_, refl}
 use Prim.Native.Nat.{ℕ}
 use mathlib.Core.List.{List, [], _∷_}

@@ -1,4 +1,5 @@
-// What an active row rests on: the conditions of its own rule, the roles that they ask for, and where such a role stands.
+// What an active row rests on: the conditions of its own rule, the roles that they ask for, and where such a role stands. What is asked
+// is marked, at the number by which a rule names it, so that nothing is asked twice.
 ghost use mathlib.Core.Path.{_≡_};
 ghost use mathlib.Core.List.{[]};
 ghost use Prim.Native.Nat.{_≤_, _<_};
@@ -126,6 +127,7 @@ fn ask_kind(kinds: &[u16], c: u16, asked: &mut [bool])
     asked[table::wide(c)] = true;
 }
 
+// What the condition asks for is marked.
 pub fn ask_condition(kinds: &[u16], c: u16, asked: &mut [bool])
     requires { ⌜ (length (now asked) ≡ 384) × Closed (now kinds) (now asked) ⌝ }
     ensures { λ r. ⌜ ConditionAsked (now (kinds .entry)) (now (asked .entry)) (now (asked .exit)) c ⌝ }

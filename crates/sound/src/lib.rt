@@ -271,6 +271,7 @@ fn rows_sound(rules: &[u16], kinds: &[u16], state: &[u16]) -> bool
     }
     let mut numbers = [0u16; 4096];
     index::number_users(state, &mut numbers);
+    // 257 blocks of 384 marks: one for each number that a row may give its user, and block 0, which is nobody's.
     let mut words = [0u16; 6168];
     index::enter_certificates(state, &numbers, &mut words);
     each_row_sound(rules, kinds, state, &numbers, &mut words)

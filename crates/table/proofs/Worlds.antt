@@ -22,7 +22,7 @@ holds-same p₁ p₂ t e rows u (kind k) = ap (λ (ks : List Kind). someStands (
 holds-same p₁ p₂ t e rows u (fact f) = refl
 holds-same p₁ p₂ t e rows u malformed = refl
 
--- as many as there are
+-- asking for more than there are is asking for all
 pub take-least : {A : Type 0} (m n : ℕ) (l : List A) → length l ≡ n → take (min m n) l ≡ take m l
 take-least m n l e = go (lt-or-ge m n)
   where

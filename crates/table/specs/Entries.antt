@@ -44,7 +44,7 @@ certificateAt s i = entry certificateFrom certificateWidth (certificateNumbers s
 unfoldable pub firstCertificates : List ℕ → ℕ → List Certificate
 firstCertificates s k = entries certificateFrom certificateWidth (certificateNumbers s) k
 
--- the rules and kinds as they are lent; nothing here reads a right
+-- the rules and kinds as they are lent, without rights: whoever judges conditions reads none
 abbrev pub withoutRights : List ℕ → List ℕ → Tables
 withoutRights rules kinds = record { rules = rules; kinds = kinds; rights = [] }
 

@@ -1,4 +1,6 @@
--- Two functions that call each other: roles ask from row to row, and hand over where a row names kinds that have not asked. So the place falls.
+-- Two functions that call each other: roles go down the rows, and hand over where a row names a kind that has not asked. The measure is
+-- twice the place, and one more for certificates, which hand back at the same place. The invariants: what the marks tell of the rows left
+-- is what they told at first of all k; and the conditions passed have asked, and nothing else was marked.
 use Prim.Native.Nat.{_+_, _-_, _*_, _≤_}
 use mathlib.Core.Path.{_≡_, refl, sym, ap, _∙_, subst⁻¹}
 use Rattle.model.specs.declared.Row.{Row}

@@ -1,5 +1,6 @@
--- `reader::line_from` meets its contract: a walk of its MIR, by hand. A `Reader` that one call returns is held in a local and passed to the next, and so is the part of the text that this one returns. All that the proof knows of `new`, of `record` and of `line_of` is that each meets its contract.
--- Assumes nothing.
+-- `reader::line_from` meets its contract: a walk of its MIR, by hand. A `Reader` that one call returns is held in a local and passed to
+-- the next, and so is the part of the text that this one returns. All that the proof knows of `new`, of `record` and of `line_of` is
+-- that each meets its contract. Assumes nothing.
 use mathlib.Core.Path.{_≡_, refl, ap, _∙_}
 use Prim.Native.Nat.{ℕ, _<_, _^_}
 use mathlib.Core.List.{List, [], _∷_}

@@ -1,6 +1,7 @@
--- `reader::moved` meets its contract: a walk of its MIR, by hand. `next_at` is called on the slice and the number that the struct holds, and a struct is made anew of the slice and the number that comes back. All that the proof knows of `next_at` is that it meets its contract.
--- The reader is taken apart as in `Held.antt`. At the exit what it owns is had twice, once with the facts of the new number in the place of at's: that is what the result owns.
--- Assumes nothing.
+-- `reader::moved` meets its contract: a walk of its MIR, by hand. `next_at` is called on the slice and the number that the struct
+-- holds, and a struct is made anew of the slice and the number that comes back. All that the proof knows of `next_at` is that it meets
+-- its contract. The reader is taken apart as in `Held.antt`. At the exit what it owns is had twice, once with the facts of the new
+-- number in the place of at's: that is what the result owns. Assumes nothing.
 use mathlib.Core.Path.{_≡_, refl, ap}
 use Prim.Native.Nat.{ℕ, _<_, _^_}
 use mathlib.Core.List.{[], _∷_}
@@ -95,7 +96,8 @@ module _ {M : Type 1} (𝓤 : URA M) (H : Heap 𝓤) (A : Atoms 𝓤) (W : Given
         calls-at ! fm (NextAt 𝓤 H A mem run) known to (and-then ! (load ! (from ! (stop !)) (look ! 4 refl)) (and-then ! (load ! (from ! (stop !)) (look ! 2 refl)) (no-more !))) (λ u.
         use1 W (later (some (λ (n : ℕ). ((‵ (flft κ q) ⊛ ‵ ftrue) ⊛ ‵ (usize .own n (u ∷ []))) ⊛ raw (ensured 𝓤 H A step.ended (step.clauses 𝓤 H A mem run) (κ, tt) (d .text, (d .at, tt)) tt n)))) (id⊢ 𝓤 _) $ await ! tt $ pick ! (λ n.
         split ! $ move ! (1 ∷ []) $ use1 W (raw (fact 𝓤 (n ≡ found))) (said n) $ heard ! (n ≡ found) (λ e. split ! $ move ! (1 ∷ []) $
-        -- the number is stored, as what it is known to be: [the token; what the struct owns; _5; …; _4; …; room for _3; …; _2; …; _1; …; room for _0; …]
+        -- the number is stored, as what it is known to be:
+        -- [the token; what the struct owns; _5; …; _4; …; room for _3; …; _2; …; _1; …; room for _0; …]
         facts ! usize (Is usize) (shows 𝓤 H A usize) n (u ∷ []) (λ is.
         land ! (from ! (stop !)) (init ! 6 refl (uint-lawful 𝓤 H A W w64 .typed n _ is .0)) $ rewrite ! 6 (λ (w : Val). ‵ (fat fullShare (tyInt w64) l₃ 0 w)) (ap only (is .0)) refl $
         assigns ! (agg ! (and-then ! (load ! (from ! (stop !)) (look ! 8 refl)) (and-then ! (load ! (from ! (stop !)) (look ! 6 refl)) (no-more !)))) (from ! (stop !)) (init ! 12 refl (tt, (wt .1 .0, (record { fits = is .1 }, tt)))) $

@@ -1,5 +1,6 @@
--- `reader::next_from` meets its contract: a walk of its MIR, by hand. A `Reader` that one call returns is held in a local and passed to the next, and a number is read from the one that comes back. All that the proof knows of `new` and of `moved` is that each meets its contract.
--- Assumes nothing.
+-- `reader::next_from` meets its contract: a walk of its MIR, by hand. A `Reader` that one call returns is held in a local and passed to
+-- the next, and a number is read from the one that comes back. All that the proof knows of `new` and of `moved` is that each meets its
+-- contract. Assumes nothing.
 use mathlib.Core.Path.{_≡_, refl, ap, _∙_}
 use Prim.Native.Nat.{ℕ, _<_, _^_}
 use mathlib.Core.List.{List, [], _∷_}
