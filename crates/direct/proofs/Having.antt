@@ -17,7 +17,7 @@ use Rattle.model.specs.Sound.{policyClauses, rightClauses, rightFits}
 use Rattle.model.specs.Words.{Sound}
 use Rattle.model.specs.declared.Right.{Right}
 use Rattle.model.specs.declared.Row.{Row}
-use Rattle.model.proofs.Tests.{lt-or-ge, each, all-of, any-append}
+use Rattle.model.proofs.Tests.{lt-or-ge, each, all-of, any-append, repeated}
 use Rattle.table.specs.Entries.{entry, entries, rightAt}
 use Rattle.table.proofs.Entries.{entries-more, entry-member, right-places}
 use Rattle.policy.specs.Lent.{lent}
@@ -25,9 +25,7 @@ use Rattle.direct.specs.Having.{RightsFit, met, isRight, Said, hasRight,
 
 module _ (rights : List ℕ) (x : ℕ) where
   pub said-none : (n : ℕ) → Said rights x 0 (replicate n false)
-  said-none zero q = refl
-  said-none (suc n) zero = refl
-  said-none (suc n) (suc q) = said-none n q
+  said-none n q = repeated false n q
 
   -- one right more
   said-next : (i q : ℕ) (right : Right) → right ≡ rightAt rights i → any (isRight x q) (entries rightFrom 2 rights (i + 1)) ≡ (any (isRight x q) (entries rightFrom 2 rights i) || (isRight x q right || false))

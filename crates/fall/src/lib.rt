@@ -54,7 +54,7 @@ fn keep_row(state: &mut [u16], w: usize, i: usize)
 }
 
 // Row i is judged over the w rows kept, which are entered in the index, and entered if it stays. Returns how many are kept now.
-fn judge(
+fn judge_row(
     rules: &[u16],
     kinds: &[u16],
     state: &mut [u16],
@@ -115,7 +115,7 @@ fn sweep(
     let mut i: usize = 0;
     let mut w: usize = 0;
     while i < n {
-        w = judge(rules, kinds, state, numbers, words, w, i);
+        w = judge_row(rules, kinds, state, numbers, words, w, i);
         i += 1;
     }
     w

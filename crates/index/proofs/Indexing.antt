@@ -15,7 +15,7 @@ use Rattle.model.specs.Conditions.{isRow, active, someStands, supported}
 use Rattle.model.specs.Records.{World}
 use Rattle.model.specs.declared.Row.{Row}
 use Rattle.model.specs.declared.Certificate.{Certificate}
-use Rattle.model.proofs.Tests.{any-append}
+use Rattle.model.proofs.Tests.{any-append, repeated}
 use Rattle.table.specs.Entries.{rowAt, firstRows, certificateAt, firstCertificates}
 use Rattle.table.proofs.Entries.{entry-member, entries-more}
 use Rattle.marks.specs.Marks.{bit, marked, Marked}
@@ -40,9 +40,7 @@ abbrev pub zeros : ℕ → List ℕ
 zeros n = replicate n 0
 
 pub getD-zeros : (n i : ℕ) → getD (zeros n) i 0 ≡ 0
-getD-zeros zero i = refl
-getD-zeros (suc n) zero = refl
-getD-zeros (suc n) (suc i) = getD-zeros n i
+getD-zeros n i = repeated 0 n i
 
 pub length-zeros : (n : ℕ) → length (zeros n) ≡ n
 length-zeros n = length-replicate n 0

@@ -31,7 +31,7 @@ pub fn refused(code: u16) -> Answer
 
 // The lowest rule for the role whose conditions all hold by the marks, or the number of rules if there is none. Most rules are for
 // other roles, so a rule's target is asked before anything else is made ready.
-fn lowest_marked(rules: &[u16], kinds: &[u16], state: &[u16], words: &[u16], role: u16) -> usize
+fn lowest_satisfied(rules: &[u16], kinds: &[u16], state: &[u16], words: &[u16], role: u16) -> usize
     requires { ⌜ Sized (now state) × Room (now words) 0 ⌝ }
     ensures { λ r. ⌜ r ≡ firstPlace (satisfiedBy (block (now (words .entry)) 0) (worldAt (now (rules .entry)) (now (kinds .entry)) (now (state .entry))) role) (policyOf (withoutRights (now (rules .entry)) (now (kinds .entry))) .rules) ⌝ }
 {
@@ -98,7 +98,7 @@ pub fn activate(
         return refused(4);
     }
     index::mark_kinds(state, user, &mut words);
-    let i = lowest_marked(rules, kinds, state, &words, role);
+    let i = lowest_satisfied(rules, kinds, state, &words, role);
     if rules.len() / RULE_WIDTH <= i {
         return refused(5);
     }

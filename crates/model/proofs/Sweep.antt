@@ -53,18 +53,10 @@ module _ {A : Type 0} where
     pub grows : (xs ys : List A) (r : A) → ((x : A) → List·Memᴰ x xs → List·Memᴰ x ys) → T (supports xs r) → T (supports ys r)
     pub local : (xs ys : List A) (r : A) → ((s : A) → List·Memᴰ s ys → Serves s r → ⊥) → T (supports (xs ++ ys) r) → T (supports xs r)
 
-  -- no row can serve itself or one before it. It is said of pairs, so that each part of the rows inherits it
+  -- no row can serve itself or one before it
   abbrev pub Ordered : (A → A → Type 0) → List A → Type 0
   Ordered Serves [] = Unit {0}
   Ordered Serves (r ∷ rs) = ((s : A) → List·Memᴰ s (r ∷ rs) → Serves s r → ⊥) × Ordered Serves rs
-
-  pub ordered-part : (Serves : A → A → Type 0) (xs rows : List A) → Sublistᴰ xs rows → Ordered Serves rows → Ordered Serves xs
-  ordered-part Serves xs [] d o = subst⁻¹ (λ (l : List A). Ordered Serves l) (Sublistᴰ·eq-nil d) tt
-  ordered-part Serves xs (r ∷ rs) d o = go (λ zs u. ordered-part Serves zs rs u (o .1)) (Sublistᴰ·cases-cons d)
-    where
-      go : ((zs : List A) → Sublistᴰ zs rs → Ordered Serves zs) → Sublistᴰ xs rs ⊎ ((zs : List A) × (xs ≡ r ∷ zs) × Sublistᴰ zs rs) → Ordered Serves xs
-      go f (inl u) = f xs u
-      go f (inr t) = subst⁻¹ (λ (l : List A). Ordered Serves l) (t .1) ((λ s m v. o .0 s (part-member s (r ∷ t .0) (r ∷ rs) (Sublistᴰ·cons-cons refl (t .2)) m) v), f (t .0) (t .2))
 
   module _ (supports : List A → A → Bool) where
     sweep-part : (kept rs : List A) → Sublistᴰ (sweep supports kept rs) (kept ++ rs)

@@ -6,7 +6,7 @@ use mathlib.Core.Logic.{_⊎_, inl, inr}
 use mathlib.Core.List.{List, [], _∷_, _++_, append-assoc, append-nil, List·Memᴰ, List·Memᴰ·head, List·Memᴰ·tail, List·Memᴰ·cases-cons, List·Memᴰ·not-nil}
 use native.Mathlib.Omega.{arith}
 use lib.Dec.{T, ltb, ltb→lt, nltb→le}
-use lib.ListN.{length, getD, take, length-take}
+use lib.ListN.{length, getD, take, replicate, length-take}
 use lib.Seq.{getD-take}
 use Rattle.model.specs.Lists.{every, any, all, allOverEarlier, firstPlace}
 
@@ -150,6 +150,12 @@ module _ {A : Type 0} where
   at-place [] i d h = absurd (omega arith)
   at-place (x ∷ xs) zero d h = List·Memᴰ·head refl
   at-place (x ∷ xs) (suc i) d h = List·Memᴰ·tail (at-place xs i d (omega arith))
+
+  -- a list of one value has it at every place, and past the end by default
+  pub repeated : (a : A) (n i : ℕ) → getD (replicate n a) i a ≡ a
+  repeated a zero i = refl
+  repeated a (suc n) zero = refl
+  repeated a (suc n) (suc i) = repeated a n i
 
   -- and one of the first n, where the place is one of theirs
   pub among-first : (xs : List A) (n i : ℕ) (d : A) → i < n → i < length xs → List·Memᴰ (getD xs i d) (take n xs)

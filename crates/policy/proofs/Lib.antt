@@ -1,6 +1,6 @@
 pub mod Clauses
 pub mod Parts
 pub mod Joined
-pub mod Rights
+pub mod Unread
 pub mod Places
-pub mod Rows
+pub mod Sixteen

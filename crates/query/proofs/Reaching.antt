@@ -1,9 +1,9 @@
 -- Effective: what code finds from the last row down is the model's.
-use Prim.Native.Nat.{ℕ, zero, suc, _+_, _-_, _≤_, _<_}
+use Prim.Native.Nat.{ℕ, zero, suc, _-_, _≤_, _<_}
 use mathlib.Core.Path.{_≡_, refl, sym, ap, _∙_, subst, subst⁻¹}
 use mathlib.Core.Bool.{Bool, true, false, _&&_, _||_, cond, true≢false}
 use mathlib.Core.Logic.{_⊎_, inl, inr}
-use mathlib.Core.List.{List, [], _∷_, reverse, List·Memᴰ}
+use mathlib.Core.List.{List, [], reverse, List·Memᴰ}
 use native.Mathlib.Omega.{arith}
 use lib.Dec.{T, eqb, T-not, not-T}
 use borrow.Author.Tests.{eq-eqb, eqb-true}
@@ -14,13 +14,13 @@ use Rattle.model.specs.Layout.{policyOf, rowCount}
 use Rattle.model.specs.Conditions.{meant, isRow, membership, ruleNumbered, rolesAsked, restsOn}
 use Rattle.model.specs.declared.Row.{Row}
 use Rattle.model.specs.Words.{Sound}
-use Rattle.model.proofs.Tests.{lt-or-ge, is-true, of-true, is-false, of-false, and-left, and-right, and-both, any-of, of-any, at-place}
+use Rattle.model.proofs.Tests.{lt-or-ge, is-true, of-true, is-false, of-false, and-left, and-right, and-both, any-of, of-any, at-place, repeated}
 use Rattle.model.proofs.Support.{isRow-user, isRow-role, joined-of, of-joined}
 use Rattle.model.proofs.Carried.{reverse-last}
 use Rattle.table.specs.Entries.{rowAt, firstRows, withoutRights}
 use Rattle.table.proofs.Entries.{rows-more}
 use Rattle.rests.specs.Newest.{newest}
-use Rattle.rests.specs.Marked.{Answered, Closed, Grown}
+use Rattle.rests.specs.Asked.{HasAsked, AskedThrough, Grown}
 use Rattle.rests.proofs.Asking.{roles-same}
 use Rattle.rests.proofs.Marking.{place-of, mark-here, mark-only}
 use Rattle.direct.specs.Having.{hasRight}
@@ -65,8 +65,8 @@ module _ (t : Tables) (having : List Bool) (s : List ℕ) (u : ℕ) where
   tell-none asked (suc k) l = absurd (omega arith)
 
   -- the row before i, and i
-  pub back : (asked : List Bool) (i : ℕ) (r : Bool) → 0 < i → Tells t having s u asked (suc (i - 1)) false r → Tells t having s u asked i false r
-  back asked i r l h = let e : suc (i - 1) ≡ i = omega arith in subst (λ (n : ℕ). Tells t having s u asked n false r) e h
+  pub tell-down : (asked : List Bool) (i : ℕ) (r : Bool) → 0 < i → Tells t having s u asked (suc (i - 1)) false r → Tells t having s u asked i false r
+  tell-down asked i r l h = let e : suc (i - 1) ≡ i = omega arith in subst (λ (n : ℕ). Tells t having s u asked n false r) e h
 
   module _ (asked : List Bool) (k : ℕ) (row : Row) (e : row ≡ rowAt s k) where
     -- the row of a role that is marked is asked
@@ -172,7 +172,7 @@ module _ (rules kinds : List ℕ) (having : List Bool) (s : List ℕ) (u : ℕ) 
         yes (inr f) = some-grown g f
 
     -- all of it is
-    pub tell-all : Ready tables having s u → k ≤ rowCount s → (r : Bool) → Grown kinds a b ownConditions (length ownConditions) → ((j : ℕ) → j < length ownConditions → Answered kinds b (getD ownConditions j 0)) → Tells tables having s u b k false r → Tells tables having s u a k (restReaches tables having s u k) r
+    pub tell-all : Ready tables having s u → k ≤ rowCount s → (r : Bool) → Grown kinds a b ownConditions (length ownConditions) → ((j : ℕ) → j < length ownConditions → HasAsked kinds b (getD ownConditions j 0)) → Tells tables having s u b k false r → Tells tables having s u a k (restReaches tables having s u k) r
     unfolding restReaches
     tell-all y l r g f h = record { yes = λ z. yes (h .yes z); no = λ z. (none (h .no z .1), λ q m o. h .no z .1 q m (g .keeps q o)) }
       where
@@ -207,11 +207,6 @@ ready t full having s u h =
 
 -- ── one role is asked at first ──
 
-unmarked : (n q : ℕ) → getD (replicate n false) q false ≡ false
-unmarked zero q = refl
-unmarked (suc n) zero = refl
-unmarked (suc n) (suc q) = unmarked n q
-
 module _ (w : ℕ) (l : w < 256) where
   pub alone-size : length (set (replicate 384 false) w true) ≡ 384
   alone-size = length-set (replicate 384 false) w true ∙ length-replicate 384 false
@@ -221,9 +216,9 @@ module _ (w : ℕ) (l : w < 256) where
     where
       go : (w ≡ q) ⊎ (getD (replicate 384 false) q false ≡ true) → w ≡ q
       go (inl e) = e
-      go (inr m) = absurd (true≢false (sym m ∙ unmarked 384 q))
+      go (inr m) = absurd (true≢false (sym m ∙ repeated false 384 q))
 
-  pub alone-closed : (kinds : List ℕ) → Closed kinds (set (replicate 384 false) w true)
+  pub alone-closed : (kinds : List ℕ) → AskedThrough kinds (set (replicate 384 false) w true)
   alone-closed kinds c k m = absurd (omega (arith, only-one c m))
 
   pub alone-tells : (t : Tables) (having : List Bool) (s : List ℕ) (u k : ℕ) (r : Bool) → Tells t having s u (set (replicate 384 false) w true) k false r → r ≡ reachedIn t having s u k w

@@ -18,7 +18,8 @@ use Rattle.model.proofs.Kept.{sound-rows}
 use Rattle.model.proofs.Support.{isRow-user, isRow-role, row-new, row-role}
 use Rattle.table.specs.Entries.{rowAt, firstRows}
 use Rattle.table.proofs.Entries.{rows-more}
-use Rattle.rests.specs.Newest.{newest, RolesFit}
+use Rattle.rests.specs.Newest.{newest}
+use Rattle.query.specs.Reached.{RolesFit}
 use Rattle.rests.proofs.Newest.{newest-some}
 
 module _ (t : Tables) (s : List ℕ) (h : Sound t s) where

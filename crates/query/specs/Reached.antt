@@ -12,8 +12,11 @@ use Rattle.model.specs.Layout.{policyOf, rowCount}
 use Rattle.model.specs.Conditions.{isRow, restsOn}
 use Rattle.model.specs.declared.Row.{Row}
 use Rattle.table.specs.Entries.{rowAt, firstRows, Sized}
-use Rattle.rests.specs.Newest.{RolesFit}
 use Rattle.direct.specs.Having.{hasRight}
+
+-- the roles of the rows are in range
+abbrev pub RolesFit : List ℕ → Type 0
+RolesFit s = (i : ℕ) → i < rowCount s → rowAt s i .role < roles
 
 -- the model's `carries`, where it is known which roles have the privilege themselves
 abbrev pub carried : Tables → List Bool → ℕ → List Row → ℕ → Bool

@@ -10,7 +10,7 @@ ghost use Rattle.model.specs.Calls.{invoke as invokeCall, effective as effectiv
 ghost use Rattle.model.specs.Words.{Sound};
 ghost use Rattle.table.specs.Entries.{withoutRights};
 ghost use Rattle.inner.specs.Lent.{lent, Answers, AnswersWith};
-ghost use Rattle.rests.specs.Marked.{Closed};
+ghost use Rattle.rests.specs.Asked.{AskedThrough};
 ghost use Rattle.query.specs.Reached.{restReaches, Ready, Tells};
 use model::Answer;
 use model::PRIVILEGES;
@@ -73,7 +73,7 @@ fn roles_reach(
     k: usize,
     user: u16,
 ) -> bool
-    requires { ⌜ Ready (withoutRights (now rules) (now kinds)) (now having) (now state) user × (k ≤ rowCount (now state)) × (length (now asked) ≡ 384) × Closed (now kinds) (now asked) ⌝ }
+    requires { ⌜ Ready (withoutRights (now rules) (now kinds)) (now having) (now state) user × (k ≤ rowCount (now state)) × (length (now asked) ≡ 384) × AskedThrough (now kinds) (now asked) ⌝ }
     ensures { λ r. ⌜ Tells (withoutRights (now (rules .entry)) (now (kinds .entry))) (now (having .entry)) (now (state .entry)) user (now (asked .entry)) k false r ⌝ }
 {
     let mut i = k;
@@ -104,7 +104,7 @@ fn certificates_reach(
     k: usize,
     user: u16,
 ) -> bool
-    requires { ⌜ Ready (withoutRights (now rules) (now kinds)) (now having) (now state) user × (k < rowCount (now state)) × (length (now asked) ≡ 384) × Closed (now kinds) (now asked) ⌝ }
+    requires { ⌜ Ready (withoutRights (now rules) (now kinds)) (now having) (now state) user × (k < rowCount (now state)) × (length (now asked) ≡ 384) × AskedThrough (now kinds) (now asked) ⌝ }
     ensures { λ r. ⌜ Tells (withoutRights (now (rules .entry)) (now (kinds .entry))) (now (having .entry)) (now (state .entry)) user (now (asked .entry)) k (restReaches (withoutRights (now (rules .entry)) (now (kinds .entry))) (now (having .entry)) (now (state .entry)) user k) r ⌝ }
 {
     let own = rests::membership_of(rules, table::row_at(state, k));

@@ -2,13 +2,13 @@
 use Prim.Native.Nat.{ℕ, zero, suc, _-_, _≤_, _<_}
 use mathlib.Core.Path.{_≡_, refl, sym, ap, _∙_, subst}
 use mathlib.Core.Bool.{Bool, true, false, _||_, cond, or-true}
-use mathlib.Core.Logic.{_⊎_, inl, inr, _≢_}
+use mathlib.Core.Logic.{_≢_}
 use mathlib.Core.List.{List, [], _∷_}
 use native.Mathlib.Omega.{arith}
 use lib.Dec.{T}
 use Rattle.model.specs.Lists.{any}
 use Rattle.model.specs.Conditions.{isRow, active}
-use Rattle.model.proofs.Tests.{lt-or-ge, of-true, any-append}
+use Rattle.model.proofs.Tests.{of-true, any-append}
 use Rattle.table.specs.Entries.{rowAt, firstRows}
 use Rattle.table.proofs.Entries.{rows-more}
 use Rattle.rests.specs.Newest.{newest}

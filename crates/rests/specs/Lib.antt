@@ -1,2 +1,2 @@
 pub mod Newest
-pub mod Marked
+pub mod Asked

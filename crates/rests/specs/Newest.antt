@@ -11,7 +11,3 @@ use Rattle.table.specs.Entries.{rowAt}
 unfoldable pub newest : List ℕ → ℕ → ℕ → ℕ → ℕ
 newest s u q zero = 0
 newest s u q (suc k) = cond (isRow u q (rowAt s k)) (suc k) (newest s u q k)
-
--- the roles of the rows are in range
-abbrev pub RolesFit : List ℕ → Type 0
-RolesFit s = (i : ℕ) → i < rowCount s → rowAt s i .role < roles

@@ -9,7 +9,7 @@ ghost use Rattle.model.specs.Layout.{policyOf};
 ghost use Rattle.model.specs.Conditions.{meant, membership, ruleNumbered, rolesAsked, restsOn};
 ghost use Rattle.table.specs.Entries.{withoutRights};
 ghost use Rattle.rests.specs.Newest.{newest};
-ghost use Rattle.rests.specs.Marked.{Closed, Known, ConditionAsked, RowAsked};
+ghost use Rattle.rests.specs.Asked.{AskedThrough, Known, ConditionAsked, RowAsked};
 use model::ROLES;
 use model::Row;
 
@@ -67,10 +67,10 @@ pub fn next_role(rules: &[u16], kinds: &[u16], row: Row) -> u16
     let m = own.count;
     let mut i: usize = 0;
     while i < m {
-        let asked = roles_asked(kinds, conditions[i]);
-        let named = asked.roles;
-        if 0 < asked.count {
-            return named[0];
+        let named = roles_asked(kinds, conditions[i]);
+        let roles = named.roles;
+        if 0 < named.count {
+            return roles[0];
         }
         i += 1;
     }
@@ -110,7 +110,7 @@ fn ask_known(c: u16, asked: &mut [bool]) -> bool
 
 // A kind asks for its prerequisite roles, and is marked. A role out of range never stands.
 fn ask_kind(kinds: &[u16], c: u16, asked: &mut [bool])
-    requires { ⌜ (length (now asked) ≡ 384) × (256 ≤ c) × (c < 384) × Closed (now kinds) (now asked) ⌝ }
+    requires { ⌜ (length (now asked) ≡ 384) × (256 ≤ c) × (c < 384) × AskedThrough (now kinds) (now asked) ⌝ }
     ensures { λ r. ⌜ ConditionAsked (now (kinds .entry)) (now (asked .entry)) (now (asked .exit)) c ⌝ }
 {
     let named = roles_asked(kinds, c);
@@ -129,7 +129,7 @@ fn ask_kind(kinds: &[u16], c: u16, asked: &mut [bool])
 
 // What the condition asks for is marked.
 pub fn ask_condition(kinds: &[u16], c: u16, asked: &mut [bool])
-    requires { ⌜ (length (now asked) ≡ 384) × Closed (now kinds) (now asked) ⌝ }
+    requires { ⌜ (length (now asked) ≡ 384) × AskedThrough (now kinds) (now asked) ⌝ }
     ensures { λ r. ⌜ ConditionAsked (now (kinds .entry)) (now (asked .entry)) (now (asked .exit)) c ⌝ }
 {
     if ask_known(c, asked) {

@@ -1,4 +1,4 @@
 pub mod Parts
-pub mod Rights
+pub mod Unread
 pub mod Traces
 pub mod Ranges

@@ -1,7 +1,7 @@
 use mathlib.Core.Path.{sym, _∙_}
 use borrow.Author.Tests.{not-true, not-false}
 use Rattle.inner.specs.Lent.{lent}
-use Rattle.sound.proofs.Rights.{sound-withoutRights}
+use Rattle.sound.proofs.Unread.{sound-without-rights}
 use Rattle.calls.proofs.Judged.{no-policy, no-state, all-sound, sound-kinds}
 use borrow.Author.Needs.{needs}
 use Rattle.calls.proofs.judge.Statement.{statement}
@@ -17,10 +17,10 @@ state-sound-requires : tie.Need-state-sound-requires
 state-sound-requires c κs = sound-kinds (lent (c .before .before .before .before .before .before .args .rules .now) (c .before .before .before .before .before .before .args .kinds .now) (c .before .before .before .before .before .before .args .rights .now)) (sym (c .before .policy-sound .ensures) ∙ not-false _ (c .if1 .left))
 
 returns-2 : tie.Need-returns-2
-returns-2 c = no-state (lent (c .before .before .before .before .before .before .before .before .args .rules .now) (c .before .before .before .before .before .before .before .before .args .kinds .now) (c .before .before .before .before .before .before .before .before .args .rights .now)) (c .before .before .before .before .before .before .before .before .args .state .now) (sym (c .before .before .before .policy-sound .ensures) ∙ not-false _ (c .before .before .if1 .left)) (sym (sound-withoutRights (lent (c .before .before .before .before .before .before .before .before .args .rules .now) (c .before .before .before .before .before .before .before .before .args .kinds .now) (c .before .before .before .before .before .before .before .before .args .rights .now)) (c .before .before .before .before .before .before .before .before .args .state .now)) ∙ sym (c .before .state-sound .ensures) ∙ not-true _ (c .if2 .taken))
+returns-2 c = no-state (lent (c .before .before .before .before .before .before .before .before .args .rules .now) (c .before .before .before .before .before .before .before .before .args .kinds .now) (c .before .before .before .before .before .before .before .before .args .rights .now)) (c .before .before .before .before .before .before .before .before .args .state .now) (sym (c .before .before .before .policy-sound .ensures) ∙ not-false _ (c .before .before .if1 .left)) (sym (sound-without-rights (lent (c .before .before .before .before .before .before .before .before .args .rules .now) (c .before .before .before .before .before .before .before .before .args .kinds .now) (c .before .before .before .before .before .before .before .before .args .rights .now)) (c .before .before .before .before .before .before .before .before .args .state .now)) ∙ sym (c .before .state-sound .ensures) ∙ not-true _ (c .if2 .taken))
 
 returns-3 : tie.Need-returns-3
-returns-3 c = all-sound (lent (c .before .before .before .before .before .before .before .before .args .rules .now) (c .before .before .before .before .before .before .before .before .args .kinds .now) (c .before .before .before .before .before .before .before .before .args .rights .now)) (c .before .before .before .before .before .before .before .before .args .state .now) (sym (c .before .before .before .policy-sound .ensures) ∙ not-false _ (c .before .before .if1 .left)) (sym (sound-withoutRights (lent (c .before .before .before .before .before .before .before .before .args .rules .now) (c .before .before .before .before .before .before .before .before .args .kinds .now) (c .before .before .before .before .before .before .before .before .args .rights .now)) (c .before .before .before .before .before .before .before .before .args .state .now)) ∙ sym (c .before .state-sound .ensures) ∙ not-false _ (c .if2 .left))
+returns-3 c = all-sound (lent (c .before .before .before .before .before .before .before .before .args .rules .now) (c .before .before .before .before .before .before .before .before .args .kinds .now) (c .before .before .before .before .before .before .before .before .args .rights .now)) (c .before .before .before .before .before .before .before .before .args .state .now) (sym (c .before .before .before .policy-sound .ensures) ∙ not-false _ (c .before .before .if1 .left)) (sym (sound-without-rights (lent (c .before .before .before .before .before .before .before .before .args .rules .now) (c .before .before .before .before .before .before .before .before .args .kinds .now) (c .before .before .before .before .before .before .before .before .args .rights .now)) (c .before .before .before .before .before .before .before .before .args .state .now)) ∙ sym (c .before .state-sound .ensures) ∙ not-false _ (c .if2 .left))
 
 pub judge-spec : {M : Type 1} → statement M
 judge-spec =

@@ -32,8 +32,8 @@ loop-holds : tie.Need-loop-holds Inv-loop μ-loop
 unfolding firstRows
 loop-holds c = (search needs, refl, swept-none _ _, c .before .before .before .before .before .pre .2)
 
-judge-requires : tie.Need-judge-requires Inv-loop μ-loop
-judge-requires c κs =
+judge-row-requires : tie.Need-judge-row-requires Inv-loop μ-loop
+judge-row-requires c κs =
     let h : c .before .before .before .loop .i < 256 = omega (arith, c .before .before .before .before .before .before .before .before .before .pre .3, c .before .before .before .before .before .before .before .before .before .pre .0 .sized .rows) in
     let j : c .before .before .before .loop .i < rowCount (c .before .before .before .before .before .before .before .before .before .args .state .now) = omega (arith, c .before .before .before .before .before .before .before .before .before .pre .3) in
     let e : rowAt (c .before .before .before .loop .state) (c .before .before .before .loop .i) ≡ rowAt (c .before .before .before .before .before .before .before .before .before .args .state .now) (c .before .before .before .loop .i) = swept-row _ (c .before .before .before .before .before .before .before .before .before .args .state .now) (c .before .before .before .loop .state) (c .before .before .before .loop .i) (c .before .before .before .loop .w) h (c .before .before .before .loop .inv .2) in (
@@ -57,9 +57,9 @@ loop-again c =
     let h : c .before .before .before .before .before .before .before .before .loop .i < 256 = omega (arith, c .before .before .before .before .before .before .before .before .before .before .before .before .before .before .pre .3, c .before .before .before .before .before .before .before .before .before .before .before .before .before .before .pre .0 .sized .rows) in (
       search needs,
       search needs,
-      swept-more (ok (c .before .before .before .before .before .before .before .before .before .before .before .before .before .before .args .rules .now) (c .before .before .before .before .before .before .before .before .before .before .before .before .before .before .args .kinds .now) (c .before .before .before .before .before .before .before .before .before .before .before .before .before .before .args .state .now)) (c .before .before .before .before .before .before .before .before .before .before .before .before .before .before .args .state .now) (c .before .before .before .before .before .before .before .before .loop .state) _ (c .before .before .before .before .before .before .before .before .loop .i) (c .before .before .before .before .before .before .before .before .loop .w) (c .before .before .before .before .judge .result) h (c .before .before .before .before .before .before .before .before .loop .inv .2)
-          (subst (λ (x : World). Judged (supported x (firstRows (c .before .before .before .before .before .before .before .before .loop .state) (c .before .before .before .before .before .before .before .before .loop .w)) (rowAt (c .before .before .before .before .before .before .before .before .loop .state) (c .before .before .before .before .before .before .before .before .loop .i))) (c .before .before .before .before .before .before .before .before .loop .state) (c .before .before .before .before .judge .last .1 .1 .0) (c .before .before .before .before .before .before .before .before .loop .w) (c .before .before .before .before .before .before .before .before .loop .i) (c .before .before .before .before .judge .result)) (swept-world (c .before .before .before .before .before .before .before .before .before .before .before .before .before .before .args .rules .now) (c .before .before .before .before .before .before .before .before .before .before .before .before .before .before .args .kinds .now) _ (c .before .before .before .before .before .before .before .before .before .before .before .before .before .before .args .state .now) (c .before .before .before .before .before .before .before .before .loop .state) (c .before .before .before .before .before .before .before .before .loop .i) (c .before .before .before .before .before .before .before .before .loop .w) (omega arith) (c .before .before .before .before .before .before .before .before .loop .inv .2)) (c .before .before .before .before .judge .ensures .0)),
-      subst (λ (l : List Certificate). Indexed (c .before .before .before .before .before .before .before .before .before .before .before .before .before .before .args .numbers .now) (c .before .before .before .before .judge .last .1 .1 .1 .1 .0) (firstRows (c .before .before .before .before .judge .last .1 .1 .0) (c .before .before .before .before .judge .result)) l) (swept-certificates _ (c .before .before .before .before .before .before .before .before .before .before .before .before .before .before .args .state .now) (c .before .before .before .before .before .before .before .before .loop .state) (c .before .before .before .before .before .before .before .before .loop .i) (c .before .before .before .before .before .before .before .before .loop .w) (omega arith) (c .before .before .before .before .before .before .before .before .loop .inv .2)) (c .before .before .before .before .judge .ensures .1),
+      swept-more (ok (c .before .before .before .before .before .before .before .before .before .before .before .before .before .before .args .rules .now) (c .before .before .before .before .before .before .before .before .before .before .before .before .before .before .args .kinds .now) (c .before .before .before .before .before .before .before .before .before .before .before .before .before .before .args .state .now)) (c .before .before .before .before .before .before .before .before .before .before .before .before .before .before .args .state .now) (c .before .before .before .before .before .before .before .before .loop .state) _ (c .before .before .before .before .before .before .before .before .loop .i) (c .before .before .before .before .before .before .before .before .loop .w) (c .before .before .before .before .judge-row .result) h (c .before .before .before .before .before .before .before .before .loop .inv .2)
+          (subst (λ (x : World). Judged (supported x (firstRows (c .before .before .before .before .before .before .before .before .loop .state) (c .before .before .before .before .before .before .before .before .loop .w)) (rowAt (c .before .before .before .before .before .before .before .before .loop .state) (c .before .before .before .before .before .before .before .before .loop .i))) (c .before .before .before .before .before .before .before .before .loop .state) (c .before .before .before .before .judge-row .last .1 .1 .0) (c .before .before .before .before .before .before .before .before .loop .w) (c .before .before .before .before .before .before .before .before .loop .i) (c .before .before .before .before .judge-row .result)) (swept-world (c .before .before .before .before .before .before .before .before .before .before .before .before .before .before .args .rules .now) (c .before .before .before .before .before .before .before .before .before .before .before .before .before .before .args .kinds .now) _ (c .before .before .before .before .before .before .before .before .before .before .before .before .before .before .args .state .now) (c .before .before .before .before .before .before .before .before .loop .state) (c .before .before .before .before .before .before .before .before .loop .i) (c .before .before .before .before .before .before .before .before .loop .w) (omega arith) (c .before .before .before .before .before .before .before .before .loop .inv .2)) (c .before .before .before .before .judge-row .ensures .0)),
+      subst (λ (l : List Certificate). Indexed (c .before .before .before .before .before .before .before .before .before .before .before .before .before .before .args .numbers .now) (c .before .before .before .before .judge-row .last .1 .1 .1 .1 .0) (firstRows (c .before .before .before .before .judge-row .last .1 .1 .0) (c .before .before .before .before .judge-row .result)) l) (swept-certificates _ (c .before .before .before .before .before .before .before .before .before .before .before .before .before .before .args .state .now) (c .before .before .before .before .before .before .before .before .loop .state) (c .before .before .before .before .before .before .before .before .loop .i) (c .before .before .before .before .before .before .before .before .loop .w) (omega arith) (c .before .before .before .before .before .before .before .before .loop .inv .2)) (c .before .before .before .before .judge-row .ensures .1),
     )
 
 same-length : tie.Need-same-length Inv-loop μ-loop
@@ -80,7 +80,7 @@ sweep-spec =
     Inv-loop
     μ-loop
     loop-holds
-    judge-requires
+    judge-row-requires
     add-i
     loop-less
     loop-again

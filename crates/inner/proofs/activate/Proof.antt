@@ -54,11 +54,11 @@ slice-aggregate-mark-kinds c = search needs
 mark-kinds-requires : tie.Need-mark-kinds-requires
 mark-kinds-requires c κs = (sound-range _ (c .before .before .before .before .before .before .before .before .before .before .before .before .before .before .before .args .state .now) (c .before .before .before .before .before .before .before .before .before .before .before .before .before .before .before .pre), c .before .before .before .before .before .before .mark-roles .ensures)
 
-slice-aggregate-lowest-marked : tie.Need-slice-aggregate-lowest-marked
-slice-aggregate-lowest-marked c = search needs
+slice-aggregate-lowest-satisfied : tie.Need-slice-aggregate-lowest-satisfied
+slice-aggregate-lowest-satisfied c = search needs
 
-lowest-marked-requires : tie.Need-lowest-marked-requires
-lowest-marked-requires c κs = (sound-sized _ (c .before .before .before .before .before .before .before .before .before .before .before .before .before .before .before .before .before .before .before .args .state .now) (c .before .before .before .before .before .before .before .before .before .before .before .before .before .before .before .before .before .before .before .pre), c .before .before .before .mark-kinds .ensures .room)
+lowest-satisfied-requires : tie.Need-lowest-satisfied-requires
+lowest-satisfied-requires c κs = (sound-sized _ (c .before .before .before .before .before .before .before .before .before .before .before .before .before .before .before .before .before .before .before .args .state .now) (c .before .before .before .before .before .before .before .before .before .before .before .before .before .before .before .before .before .before .before .pre), c .before .before .before .mark-kinds .ensures .room)
 
 refused-requires-4 : tie.Need-refused-requires-4
 refused-requires-4 c κs = search needs
@@ -67,7 +67,7 @@ same-length-2 : tie.Need-same-length-2
 same-length-2 c = search needs
 
 returns-4 : tie.Need-returns-4
-returns-4 c = no-rule (c .before .before .before .before .before .before .before .before .before .before .before .before .before .before .before .before .before .before .before .before .before .before .args .rules .now) (c .before .before .before .before .before .before .before .before .before .before .before .before .before .before .before .before .before .before .before .before .before .before .args .kinds .now) (c .before .before .before .before .before .before .before .before .before .before .before .before .before .before .before .before .before .before .before .before .before .before .args .rights .now) (c .before .before .before .before .before .before .before .before .before .before .before .before .before .before .before .before .before .before .before .before .before .before .args .state .now) (c .before .before .before .before .before .before .before .before .before .before .before .before .before .before .before .before .before .before .before .before .before .before .pre) (c .before .before .before .before .before .before .before .before .before .before .before .before .before .before .before .before .before .before .before .before .before .before .args .user) (c .before .before .before .before .before .before .before .before .before .before .before .before .before .before .before .before .before .before .before .before .before .before .args .role) (c .before .before .before .before .before .before .before .before .before .before .before .before .before .before .before .before .before .if1 .left) (c .before .before .before .before .before .before .before .before .before .before .before .before .before .before .before .before .if2 .left) (sym (active-own (c .before .before .before .before .before .before .before .before .before .before .before .before .before .before .before .before .before .before .before .before .before .before .args .user) _ (decode (c .before .before .before .before .before .before .before .before .before .before .before .before .before .before .before .before .before .before .before .before .before .before .args .state .now) .rows) [] (c .before .before .before .before .before .before .before .before .before .before .before .before .before .mark-roles .ensures) (c .before .before .before .before .before .before .before .before .before .before .before .before .before .before .before .before .before .before .before .before .before .before .args .role) (c .before .before .before .before .before .before .before .before .before .before .before .before .before .before .before .before .if2 .left)) ∙ sym (c .before .before .before .before .before .before .before .before .before .before .role-marked .ensures) ∙ c .before .before .before .before .before .before .before .before .before .if3 .left) (c .before .before .lowest-marked .result) (lowest-own (c .before .before .before .before .before .before .before .before .before .before .before .before .before .before .before .before .before .before .before .before .before .before .args .rules .now) (c .before .before .before .before .before .before .before .before .before .before .before .before .before .before .before .before .before .before .before .before .before .before .args .kinds .now) (c .before .before .before .before .before .before .before .before .before .before .before .before .before .before .before .before .before .before .before .before .before .before .args .state .now) (c .before .before .before .before .before .before .before .before .before .before .before .before .before .before .before .before .before .before .before .before .before .before .args .user) (c .before .before .before .before .before .before .before .before .before .before .before .before .before .before .before .before .before .before .before .before .before .before .args .role) (c .before .before .lowest-marked .result) _ (c .before .before .before .before .before .before .mark-kinds .ensures) (c .before .before .lowest-marked .ensures)) (c .refused4 .result) (c .refused4 .ensures) (search needs)
+returns-4 c = no-rule (c .before .before .before .before .before .before .before .before .before .before .before .before .before .before .before .before .before .before .before .before .before .before .args .rules .now) (c .before .before .before .before .before .before .before .before .before .before .before .before .before .before .before .before .before .before .before .before .before .before .args .kinds .now) (c .before .before .before .before .before .before .before .before .before .before .before .before .before .before .before .before .before .before .before .before .before .before .args .rights .now) (c .before .before .before .before .before .before .before .before .before .before .before .before .before .before .before .before .before .before .before .before .before .before .args .state .now) (c .before .before .before .before .before .before .before .before .before .before .before .before .before .before .before .before .before .before .before .before .before .before .pre) (c .before .before .before .before .before .before .before .before .before .before .before .before .before .before .before .before .before .before .before .before .before .before .args .user) (c .before .before .before .before .before .before .before .before .before .before .before .before .before .before .before .before .before .before .before .before .before .before .args .role) (c .before .before .before .before .before .before .before .before .before .before .before .before .before .before .before .before .before .if1 .left) (c .before .before .before .before .before .before .before .before .before .before .before .before .before .before .before .before .if2 .left) (sym (active-own (c .before .before .before .before .before .before .before .before .before .before .before .before .before .before .before .before .before .before .before .before .before .before .args .user) _ (decode (c .before .before .before .before .before .before .before .before .before .before .before .before .before .before .before .before .before .before .before .before .before .before .args .state .now) .rows) [] (c .before .before .before .before .before .before .before .before .before .before .before .before .before .mark-roles .ensures) (c .before .before .before .before .before .before .before .before .before .before .before .before .before .before .before .before .before .before .before .before .before .before .args .role) (c .before .before .before .before .before .before .before .before .before .before .before .before .before .before .before .before .if2 .left)) ∙ sym (c .before .before .before .before .before .before .before .before .before .before .role-marked .ensures) ∙ c .before .before .before .before .before .before .before .before .before .if3 .left) (c .before .before .lowest-satisfied .result) (lowest-own (c .before .before .before .before .before .before .before .before .before .before .before .before .before .before .before .before .before .before .before .before .before .before .args .rules .now) (c .before .before .before .before .before .before .before .before .before .before .before .before .before .before .before .before .before .before .before .before .before .before .args .kinds .now) (c .before .before .before .before .before .before .before .before .before .before .before .before .before .before .before .before .before .before .before .before .before .before .args .state .now) (c .before .before .before .before .before .before .before .before .before .before .before .before .before .before .before .before .before .before .before .before .before .before .args .user) (c .before .before .before .before .before .before .before .before .before .before .before .before .before .before .before .before .before .before .before .before .before .before .args .role) (c .before .before .lowest-satisfied .result) _ (c .before .before .before .before .before .before .mark-kinds .ensures) (c .before .before .lowest-satisfied .ensures)) (c .refused4 .result) (c .refused4 .ensures) (search needs)
 
 refused-requires-5 : tie.Need-refused-requires-5
 refused-requires-5 c κs = search needs
@@ -76,7 +76,7 @@ same-length-3 : tie.Need-same-length-3
 same-length-3 c = search needs
 
 returns-5 : tie.Need-returns-5
-returns-5 c = no-room (c .before .before .before .before .before .before .before .before .before .before .before .before .before .before .before .before .before .before .before .before .before .before .before .before .before .args .rules .now) (c .before .before .before .before .before .before .before .before .before .before .before .before .before .before .before .before .before .before .before .before .before .before .before .before .before .args .kinds .now) (c .before .before .before .before .before .before .before .before .before .before .before .before .before .before .before .before .before .before .before .before .before .before .before .before .before .args .rights .now) (c .before .before .before .before .before .before .before .before .before .before .before .before .before .before .before .before .before .before .before .before .before .before .before .before .before .args .state .now) (c .before .before .before .before .before .before .before .before .before .before .before .before .before .before .before .before .before .before .before .before .before .before .before .before .before .pre) (c .before .before .before .before .before .before .before .before .before .before .before .before .before .before .before .before .before .before .before .before .before .before .before .before .before .args .user) (c .before .before .before .before .before .before .before .before .before .before .before .before .before .before .before .before .before .before .before .before .before .before .before .before .before .args .role) (c .before .before .before .before .before .before .before .before .before .before .before .before .before .before .before .before .before .before .before .before .if1 .left) (c .before .before .before .before .before .before .before .before .before .before .before .before .before .before .before .before .before .before .before .if2 .left) (sym (active-own (c .before .before .before .before .before .before .before .before .before .before .before .before .before .before .before .before .before .before .before .before .before .before .before .before .before .args .user) _ (decode (c .before .before .before .before .before .before .before .before .before .before .before .before .before .before .before .before .before .before .before .before .before .before .before .before .before .args .state .now) .rows) [] (c .before .before .before .before .before .before .before .before .before .before .before .before .before .before .before .before .mark-roles .ensures) (c .before .before .before .before .before .before .before .before .before .before .before .before .before .before .before .before .before .before .before .before .before .before .before .before .before .args .role) (c .before .before .before .before .before .before .before .before .before .before .before .before .before .before .before .before .before .before .before .if2 .left)) ∙ sym (c .before .before .before .before .before .before .before .before .before .before .before .before .before .role-marked .ensures) ∙ c .before .before .before .before .before .before .before .before .before .before .before .before .if3 .left) (c .before .before .before .before .before .lowest-marked .result) (lowest-own (c .before .before .before .before .before .before .before .before .before .before .before .before .before .before .before .before .before .before .before .before .before .before .before .before .before .args .rules .now) (c .before .before .before .before .before .before .before .before .before .before .before .before .before .before .before .before .before .before .before .before .before .before .before .before .before .args .kinds .now) (c .before .before .before .before .before .before .before .before .before .before .before .before .before .before .before .before .before .before .before .before .before .before .before .before .before .args .state .now) (c .before .before .before .before .before .before .before .before .before .before .before .before .before .before .before .before .before .before .before .before .before .before .before .before .before .args .user) (c .before .before .before .before .before .before .before .before .before .before .before .before .before .before .before .before .before .before .before .before .before .before .before .before .before .args .role) (c .before .before .before .before .before .lowest-marked .result) _ (c .before .before .before .before .before .before .before .before .before .mark-kinds .ensures) (c .before .before .before .before .before .lowest-marked .ensures)) (search needs) (c .refused5 .result) (c .refused5 .ensures) (omega (arith, c .before .before .wide .ensures))
+returns-5 c = no-room (c .before .before .before .before .before .before .before .before .before .before .before .before .before .before .before .before .before .before .before .before .before .before .before .before .before .args .rules .now) (c .before .before .before .before .before .before .before .before .before .before .before .before .before .before .before .before .before .before .before .before .before .before .before .before .before .args .kinds .now) (c .before .before .before .before .before .before .before .before .before .before .before .before .before .before .before .before .before .before .before .before .before .before .before .before .before .args .rights .now) (c .before .before .before .before .before .before .before .before .before .before .before .before .before .before .before .before .before .before .before .before .before .before .before .before .before .args .state .now) (c .before .before .before .before .before .before .before .before .before .before .before .before .before .before .before .before .before .before .before .before .before .before .before .before .before .pre) (c .before .before .before .before .before .before .before .before .before .before .before .before .before .before .before .before .before .before .before .before .before .before .before .before .before .args .user) (c .before .before .before .before .before .before .before .before .before .before .before .before .before .before .before .before .before .before .before .before .before .before .before .before .before .args .role) (c .before .before .before .before .before .before .before .before .before .before .before .before .before .before .before .before .before .before .before .before .if1 .left) (c .before .before .before .before .before .before .before .before .before .before .before .before .before .before .before .before .before .before .before .if2 .left) (sym (active-own (c .before .before .before .before .before .before .before .before .before .before .before .before .before .before .before .before .before .before .before .before .before .before .before .before .before .args .user) _ (decode (c .before .before .before .before .before .before .before .before .before .before .before .before .before .before .before .before .before .before .before .before .before .before .before .before .before .args .state .now) .rows) [] (c .before .before .before .before .before .before .before .before .before .before .before .before .before .before .before .before .mark-roles .ensures) (c .before .before .before .before .before .before .before .before .before .before .before .before .before .before .before .before .before .before .before .before .before .before .before .before .before .args .role) (c .before .before .before .before .before .before .before .before .before .before .before .before .before .before .before .before .before .before .before .if2 .left)) ∙ sym (c .before .before .before .before .before .before .before .before .before .before .before .before .before .role-marked .ensures) ∙ c .before .before .before .before .before .before .before .before .before .before .before .before .if3 .left) (c .before .before .before .before .before .lowest-satisfied .result) (lowest-own (c .before .before .before .before .before .before .before .before .before .before .before .before .before .before .before .before .before .before .before .before .before .before .before .before .before .args .rules .now) (c .before .before .before .before .before .before .before .before .before .before .before .before .before .before .before .before .before .before .before .before .before .before .before .before .before .args .kinds .now) (c .before .before .before .before .before .before .before .before .before .before .before .before .before .before .before .before .before .before .before .before .before .before .before .before .before .args .state .now) (c .before .before .before .before .before .before .before .before .before .before .before .before .before .before .before .before .before .before .before .before .before .before .before .before .before .args .user) (c .before .before .before .before .before .before .before .before .before .before .before .before .before .before .before .before .before .before .before .before .before .before .before .before .before .args .role) (c .before .before .before .before .before .lowest-satisfied .result) _ (c .before .before .before .before .before .before .before .before .before .mark-kinds .ensures) (c .before .before .before .before .before .lowest-satisfied .ensures)) (search needs) (c .refused5 .result) (c .refused5 .ensures) (omega (arith, c .before .before .wide .ensures))
 
 cast-rule : tie.Need-cast-rule
 cast-rule c = omega (arith, sound-rules (c .before .before .before .before .before .before .before .before .before .before .before .before .before .before .before .before .before .before .before .before .before .before .before .before .args .rules .now) (c .before .before .before .before .before .before .before .before .before .before .before .before .before .before .before .before .before .before .before .before .before .before .before .before .args .kinds .now) (c .before .before .before .before .before .before .before .before .before .before .before .before .before .before .before .before .before .before .before .before .before .before .before .before .args .rights .now) (c .before .before .before .before .before .before .before .before .before .before .before .before .before .before .before .before .before .before .before .before .before .before .before .before .args .state .now) (c .before .before .before .before .before .before .before .before .before .before .before .before .before .before .before .before .before .before .before .before .before .before .before .before .pre))
@@ -88,7 +88,7 @@ same-length-4 : tie.Need-same-length-4
 same-length-4 c = search needs
 
 returns-6 : tie.Need-returns-6
-returns-6 c = granted (c .before .before .before .before .before .before .before .before .before .before .before .before .before .before .before .before .before .before .before .before .before .before .before .before .before .before .before .before .args .rules .now) (c .before .before .before .before .before .before .before .before .before .before .before .before .before .before .before .before .before .before .before .before .before .before .before .before .before .before .before .before .args .kinds .now) (c .before .before .before .before .before .before .before .before .before .before .before .before .before .before .before .before .before .before .before .before .before .before .before .before .before .before .before .before .args .rights .now) (c .before .before .before .before .before .before .before .before .before .before .before .before .before .before .before .before .before .before .before .before .before .before .before .before .before .before .before .before .args .state .now) (c .before .before .before .before .before .before .before .before .before .before .before .before .before .before .before .before .before .before .before .before .before .before .before .before .before .before .before .before .pre) (c .before .before .before .before .before .before .before .before .before .before .before .before .before .before .before .before .before .before .before .before .before .before .before .before .before .before .before .before .args .user) (c .before .before .before .before .before .before .before .before .before .before .before .before .before .before .before .before .before .before .before .before .before .before .before .before .before .before .before .before .args .role) (c .before .before .before .before .before .before .before .before .before .before .before .before .before .before .before .before .before .before .before .before .before .before .before .if1 .left) (c .before .before .before .before .before .before .before .before .before .before .before .before .before .before .before .before .before .before .before .before .before .before .if2 .left) (sym (active-own (c .before .before .before .before .before .before .before .before .before .before .before .before .before .before .before .before .before .before .before .before .before .before .before .before .before .before .before .before .args .user) _ (decode (c .before .before .before .before .before .before .before .before .before .before .before .before .before .before .before .before .before .before .before .before .before .before .before .before .before .before .before .before .args .state .now) .rows) [] (c .before .before .before .before .before .before .before .before .before .before .before .before .before .before .before .before .before .before .before .mark-roles .ensures) (c .before .before .before .before .before .before .before .before .before .before .before .before .before .before .before .before .before .before .before .before .before .before .before .before .before .before .before .before .args .role) (c .before .before .before .before .before .before .before .before .before .before .before .before .before .before .before .before .before .before .before .before .before .before .if2 .left)) ∙ sym (c .before .before .before .before .before .before .before .before .before .before .before .before .before .before .before .before .role-marked .ensures) ∙ c .before .before .before .before .before .before .before .before .before .before .before .before .before .before .before .if3 .left) (c .before .before .before .before .before .before .before .before .lowest-marked .result) (lowest-own (c .before .before .before .before .before .before .before .before .before .before .before .before .before .before .before .before .before .before .before .before .before .before .before .before .before .before .before .before .args .rules .now) (c .before .before .before .before .before .before .before .before .before .before .before .before .before .before .before .before .before .before .before .before .before .before .before .before .before .before .before .before .args .kinds .now) (c .before .before .before .before .before .before .before .before .before .before .before .before .before .before .before .before .before .before .before .before .before .before .before .before .before .before .before .before .args .state .now) (c .before .before .before .before .before .before .before .before .before .before .before .before .before .before .before .before .before .before .before .before .before .before .before .before .before .before .before .before .args .user) (c .before .before .before .before .before .before .before .before .before .before .before .before .before .before .before .before .before .before .before .before .before .before .before .before .before .before .before .before .args .role) (c .before .before .before .before .before .before .before .before .lowest-marked .result) _ (c .before .before .before .before .before .before .before .before .before .before .before .before .mark-kinds .ensures) (c .before .before .before .before .before .before .before .before .lowest-marked .ensures)) (search needs) _ _ (omega (arith, c .before .before .before .before .before .wide .ensures)) refl refl (c .before .before .append-row .ensures)
+returns-6 c = granted (c .before .before .before .before .before .before .before .before .before .before .before .before .before .before .before .before .before .before .before .before .before .before .before .before .before .before .before .before .args .rules .now) (c .before .before .before .before .before .before .before .before .before .before .before .before .before .before .before .before .before .before .before .before .before .before .before .before .before .before .before .before .args .kinds .now) (c .before .before .before .before .before .before .before .before .before .before .before .before .before .before .before .before .before .before .before .before .before .before .before .before .before .before .before .before .args .rights .now) (c .before .before .before .before .before .before .before .before .before .before .before .before .before .before .before .before .before .before .before .before .before .before .before .before .before .before .before .before .args .state .now) (c .before .before .before .before .before .before .before .before .before .before .before .before .before .before .before .before .before .before .before .before .before .before .before .before .before .before .before .before .pre) (c .before .before .before .before .before .before .before .before .before .before .before .before .before .before .before .before .before .before .before .before .before .before .before .before .before .before .before .before .args .user) (c .before .before .before .before .before .before .before .before .before .before .before .before .before .before .before .before .before .before .before .before .before .before .before .before .before .before .before .before .args .role) (c .before .before .before .before .before .before .before .before .before .before .before .before .before .before .before .before .before .before .before .before .before .before .before .if1 .left) (c .before .before .before .before .before .before .before .before .before .before .before .before .before .before .before .before .before .before .before .before .before .before .if2 .left) (sym (active-own (c .before .before .before .before .before .before .before .before .before .before .before .before .before .before .before .before .before .before .before .before .before .before .before .before .before .before .before .before .args .user) _ (decode (c .before .before .before .before .before .before .before .before .before .before .before .before .before .before .before .before .before .before .before .before .before .before .before .before .before .before .before .before .args .state .now) .rows) [] (c .before .before .before .before .before .before .before .before .before .before .before .before .before .before .before .before .before .before .before .mark-roles .ensures) (c .before .before .before .before .before .before .before .before .before .before .before .before .before .before .before .before .before .before .before .before .before .before .before .before .before .before .before .before .args .role) (c .before .before .before .before .before .before .before .before .before .before .before .before .before .before .before .before .before .before .before .before .before .before .if2 .left)) ∙ sym (c .before .before .before .before .before .before .before .before .before .before .before .before .before .before .before .before .role-marked .ensures) ∙ c .before .before .before .before .before .before .before .before .before .before .before .before .before .before .before .if3 .left) (c .before .before .before .before .before .before .before .before .lowest-satisfied .result) (lowest-own (c .before .before .before .before .before .before .before .before .before .before .before .before .before .before .before .before .before .before .before .before .before .before .before .before .before .before .before .before .args .rules .now) (c .before .before .before .before .before .before .before .before .before .before .before .before .before .before .before .before .before .before .before .before .before .before .before .before .before .before .before .before .args .kinds .now) (c .before .before .before .before .before .before .before .before .before .before .before .before .before .before .before .before .before .before .before .before .before .before .before .before .before .before .before .before .args .state .now) (c .before .before .before .before .before .before .before .before .before .before .before .before .before .before .before .before .before .before .before .before .before .before .before .before .before .before .before .before .args .user) (c .before .before .before .before .before .before .before .before .before .before .before .before .before .before .before .before .before .before .before .before .before .before .before .before .before .before .before .before .args .role) (c .before .before .before .before .before .before .before .before .lowest-satisfied .result) _ (c .before .before .before .before .before .before .before .before .before .before .before .before .mark-kinds .ensures) (c .before .before .before .before .before .before .before .before .lowest-satisfied .ensures)) (search needs) _ _ (omega (arith, c .before .before .before .before .before .wide .ensures)) refl refl (c .before .before .append-row .ensures)
 
 pub activate-spec : {M : Type 1} → statement M
 activate-spec =
@@ -107,8 +107,8 @@ activate-spec =
     returns-3
     slice-aggregate-mark-kinds
     mark-kinds-requires
-    slice-aggregate-lowest-marked
-    lowest-marked-requires
+    slice-aggregate-lowest-satisfied
+    lowest-satisfied-requires
     refused-requires-4
     same-length-2
     returns-4

@@ -1,24 +1,21 @@
 -- The invariant: what is wrong with the conditions passed is joined, and it is zero exactly if nothing is.
 use Prim.Native.Nat.{ℕ, _≤_, _-_}
-use mathlib.Core.Path.{_≡_, refl, ap, _∙_}
-use mathlib.Core.Bool.{Bool}
+use mathlib.Core.Path.{_≡_, refl, sym, ap, _∙_}
+use mathlib.Core.Bool.{Bool, cond}
 use mathlib.Core.List.{List}
 use native.Mathlib.Omega.{arith}
 use lib.Dec.{eqb}
-use lib.ListN.{length, take}
+use lib.ListN.{length, getD, take}
 use lib.Seq.{take-all}
+use Rattle.model.specs.Lists.{isZero}
 use Rattle.model.specs.Conditions.{meant}
 use Rattle.model.specs.Sound.{conditionFits}
 use Rattle.policy.specs.Lent.{kindsOnly}
+use Rattle.policy.proofs.Places.{unfit-not-zero}
 use Rattle.policy.proofs.Joined.{mixed, mixed-parts, mixed-more}
 use borrow.Author.Needs.{needs}
 use Rattle.policy.proofs.conditions_fit.Statement.{statement}
 use Rattle.policy.proofs.conditions_fit.Tie as tie
-use mathlib.Core.Path.{sym}
-use mathlib.Core.Bool.{cond}
-use lib.ListN.{getD}
-use Rattle.model.specs.Lists.{isZero}
-use Rattle.policy.proofs.Places.{unfit-not-zero}
 
 abbrev fits : List ℕ → ℕ → Bool
 fits kinds c = conditionFits (kindsOnly kinds) (meant c)

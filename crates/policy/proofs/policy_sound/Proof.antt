@@ -8,7 +8,7 @@ use Rattle.model.specs.Sound.{policyClauses}
 use Rattle.table.proofs.Entries.{length-entries}
 use Rattle.policy.specs.Lent.{lent, kindsOnly}
 use Rattle.policy.proofs.Clauses.{here, later, fails, passes}
-use Rattle.policy.proofs.Rights.{rules-fit-same}
+use Rattle.policy.proofs.Unread.{rules-fit-same}
 use borrow.Author.Needs.{needs}
 use Rattle.policy.proofs.policy_sound.Statement.{statement}
 use Rattle.policy.proofs.policy_sound.Tie as tie

@@ -6,7 +6,7 @@ use lib.Dec.{eqb}
 use lib.ListN.{length}
 use Rattle.model.specs.Layout.{policyOf}
 use Rattle.policy.proofs.Joined.{right-more}
-use Rattle.policy.proofs.Rows.{firstFit}
+use Rattle.policy.proofs.Sixteen.{firstFit}
 use borrow.Author.Needs.{needs}
 use Rattle.policy.proofs.rest_fits.Statement.{statement}
 use Rattle.policy.proofs.rest_fits.Tie as tie

@@ -1,8 +1,8 @@
 -- Two functions that call each other: roles go down the rows, and hand over where a row names a kind that has not asked. The measure is
--- twice the place, and one more for certificates, which hand back at the same place. The invariants: what the marks tell of the rows left
+-- twice the place, and one more for certificates, which hand tell-down at the same place. The invariants: what the marks tell of the rows left
 -- is what they told at first of all k; and the conditions passed have asked, and nothing else was marked.
-use Prim.Native.Nat.{_+_, _-_, _*_, _≤_}
-use mathlib.Core.Path.{_≡_, refl, sym, ap, _∙_, subst⁻¹}
+use Prim.Native.Nat.{ℕ, _+_, _-_, _*_, _≤_, _<_}
+use mathlib.Core.Path.{_≡_, refl, sym, _∙_, subst⁻¹}
 use Rattle.model.specs.declared.Row.{Row}
 use mathlib.Core.Bool.{Bool, false}
 use native.Mathlib.Omega.{arith}
@@ -10,11 +10,10 @@ use borrow.Author.Tests.{not-true, not-false}
 use borrow.Author.Needs.{needs}
 use lib.ListN.{length, getD}
 use Rattle.table.specs.Entries.{withoutRights}
-use Rattle.rests.specs.Marked.{Answered, Closed, Grown}
+use Rattle.rests.specs.Asked.{HasAsked, AskedThrough, Grown}
 use Rattle.rests.proofs.Marking.{grown-none, grown-next, each-next, grown-within, each-within}
 use Rattle.query.specs.Reached.{Tells}
-use Rattle.query.proofs.Reaching.{tell-none, tell-other, tell-own, tell-row, tell-part, tell-all, back}
-use Prim.Native.Nat.{ℕ, _<_}
+use Rattle.query.proofs.Reaching.{tell-none, tell-other, tell-own, tell-row, tell-part, tell-all, tell-down}
 use borrow.Fn.Kinds.{In}
 use borrow.Fn.PlainCycle.{Measures, is, falls, and}
 use Rattle.query.proofs.certificates_reach.Reads as certificates-reach
@@ -70,7 +69,7 @@ abbrev calls-roles-reach : ℕ → roles-reach-lts.Claims
 calls-roles-reach t = (row-at-reads.Asked, row-at-reads.Learnt, is-asked-reads.Asked, is-asked-reads.Learnt, has-right-reads.Asked, has-right-reads.Learnt, ask-row-reads.Asked, ask-row-reads.Learnt, certificates-reach-below t, certificates-reach.Post)
 
 abbrev certificates-reach-Inv-loop : certificates-reach-lts.InvT-loop
-certificates-reach-Inv-loop rules kinds having state asked₀ k user conditions m i₀ asked i = (i ≤ m) × Grown kinds asked₀ asked conditions i × ((j : ℕ) → j < i → Answered kinds asked (getD conditions j 0))
+certificates-reach-Inv-loop rules kinds having state asked₀ k user conditions m i₀ asked i = (i ≤ m) × Grown kinds asked₀ asked conditions i × ((j : ℕ) → j < i → HasAsked kinds asked (getD conditions j 0))
 
 abbrev certificates-reach-μ-loop : certificates-reach-lts.MeasureT-loop
 certificates-reach-μ-loop rules kinds having state asked₀ k user conditions m i₀ asked i = m - i
@@ -164,7 +163,7 @@ certificates-reach-returns : (t : ℕ) → certificates-reach-lts.Need-returns (
 certificates-reach-returns t c = let z : length (c .before .before .before .before .before .before .before .membership-of .result .conditions) ≡ 8 = search needs in let few : c .before .before .before .before .before .before .before .membership-of .result .count ≤ length (c .before .before .before .before .before .before .before .membership-of .result .conditions) = omega (arith, z, c .before .before .before .before .before .before .before .membership-of .ensures .0) in let all : c .before .before .before .before .before .loop .i ≡ c .before .before .before .before .before .before .before .membership-of .result .count = omega (arith, c .before .before .before .before .before .loop .inv .0) in tell-all (c .before .before .before .before .before .before .before .before .before .before .before .before .before .args .rules .now) (c .before .before .before .before .before .before .before .before .before .before .before .before .before .args .kinds .now) (c .before .before .before .before .before .before .before .before .before .before .before .before .before .args .having .now) (c .before .before .before .before .before .before .before .before .before .before .before .before .before .args .state .now) (c .before .before .before .before .before .before .before .before .before .before .before .before .before .args .user) (c .before .before .before .before .before .before .before .before .before .before .before .before .before .args .k) (c .before .before .before .before .before .before .before .before .row-at .result) (c .before .before .before .before .before .before .before .before .row-at .ensures) (c .before .before .before .before .before .before .before .before .before .before .before .before .before .args .asked .now) (c .before .before .before .before .before .loop .asked) (c .before .before .before .before .before .before .before .before .before .before .before .before .before .pre .1 .0) (omega (arith, c .before .before .before .before .before .before .before .before .before .before .before .before .before .pre .1 .1)) _ (grown-within _ _ _ (c .before .before .before .before .before .before .before .membership-of .result .conditions) _ (c .before .before .before .before .before .loop .i) (c .before .before .before .before .before .before .before .membership-of .result .count) (c .before .before .before .before .before .before .before .membership-of .ensures .1) (c .before .before .before .before .before .loop .inv .0) few (c .before .before .before .before .before .loop .inv .1)) (each-within _ (c .before .before .before .before .before .loop .asked) (c .before .before .before .before .before .before .before .membership-of .result .conditions) _ (c .before .before .before .before .before .before .before .membership-of .result .count) (c .before .before .before .before .before .before .before .membership-of .ensures .1) few (λ j l. c .before .before .before .before .before .loop .inv .2 j (omega arith))) (c .before .before .roles-reach .ensures)
 
 abbrev roles-reach-Inv-loop : roles-reach-lts.InvT-loop
-roles-reach-Inv-loop rules kinds having state asked₀ k user i₀ asked i = (i ≤ k) × (length asked ≡ 384) × Closed kinds asked × ((r : Bool) → Tells (withoutRights rules kinds) having state user asked i false r → Tells (withoutRights rules kinds) having state user asked₀ k false r)
+roles-reach-Inv-loop rules kinds having state asked₀ k user i₀ asked i = (i ≤ k) × (length asked ≡ 384) × AskedThrough kinds asked × ((r : Bool) → Tells (withoutRights rules kinds) having state user asked i false r → Tells (withoutRights rules kinds) having state user asked₀ k false r)
 
 abbrev roles-reach-μ-loop : roles-reach-lts.MeasureT-loop
 roles-reach-μ-loop rules kinds having state asked₀ k user i₀ asked i = i
@@ -185,7 +184,7 @@ roles-reach-loop-less : (t : ℕ) → roles-reach-lts.Need-loop-less (calls-role
 roles-reach-loop-less t c = search needs
 
 roles-reach-loop-again : (t : ℕ) → roles-reach-lts.Need-loop-again (calls-roles-reach t) (roles-reach-at t) roles-reach.Post roles-reach-Inv-loop roles-reach-μ-loop
-roles-reach-loop-again t c = (omega (arith, c .before .before .before .before .before .loop .inv .0), c .before .before .before .before .before .loop .inv .1, c .before .before .before .before .before .loop .inv .2, λ r h. c .before .before .before .before .before .loop .inv .3 r (back (withoutRights (c .before .before .before .before .before .before .before .before .before .before .args .rules .now) (c .before .before .before .before .before .before .before .before .before .before .args .kinds .now)) (c .before .before .before .before .before .before .before .before .before .before .args .having .now) (c .before .before .before .before .before .before .before .before .before .before .args .state .now) (c .before .before .before .before .before .before .before .before .before .before .args .user) (c .before .before .before .before .before .loop .asked) (c .before .before .before .before .before .loop .i) r (c .before .before .before .before .loop-test .taken) (tell-other (withoutRights (c .before .before .before .before .before .before .before .before .before .before .args .rules .now) (c .before .before .before .before .before .before .before .before .before .before .args .kinds .now)) (c .before .before .before .before .before .before .before .before .before .before .args .having .now) (c .before .before .before .before .before .before .before .before .before .before .args .state .now) (c .before .before .before .before .before .before .before .before .before .before .args .user) (c .before .before .before .before .before .loop .asked) _ (c .before .before .before .row-at .result) (c .before .before .before .row-at .ensures) r (sym (c .before .is-asked .ensures) ∙ not-true _ (c .if1 .taken)) h)))
+roles-reach-loop-again t c = (omega (arith, c .before .before .before .before .before .loop .inv .0), c .before .before .before .before .before .loop .inv .1, c .before .before .before .before .before .loop .inv .2, λ r h. c .before .before .before .before .before .loop .inv .3 r (tell-down (withoutRights (c .before .before .before .before .before .before .before .before .before .before .args .rules .now) (c .before .before .before .before .before .before .before .before .before .before .args .kinds .now)) (c .before .before .before .before .before .before .before .before .before .before .args .having .now) (c .before .before .before .before .before .before .before .before .before .before .args .state .now) (c .before .before .before .before .before .before .before .before .before .before .args .user) (c .before .before .before .before .before .loop .asked) (c .before .before .before .before .before .loop .i) r (c .before .before .before .before .loop-test .taken) (tell-other (withoutRights (c .before .before .before .before .before .before .before .before .before .before .args .rules .now) (c .before .before .before .before .before .before .before .before .before .before .args .kinds .now)) (c .before .before .before .before .before .before .before .before .before .before .args .having .now) (c .before .before .before .before .before .before .before .before .before .before .args .state .now) (c .before .before .before .before .before .before .before .before .before .before .args .user) (c .before .before .before .before .before .loop .asked) _ (c .before .before .before .row-at .result) (c .before .before .before .row-at .ensures) r (sym (c .before .is-asked .ensures) ∙ not-true _ (c .if1 .taken)) h)))
 
 roles-reach-has-right-requires : (t : ℕ) → roles-reach-lts.Need-has-right-requires (calls-roles-reach t) (roles-reach-at t) roles-reach.Post roles-reach-Inv-loop roles-reach-μ-loop
 roles-reach-has-right-requires t c κs = search needs
@@ -194,7 +193,7 @@ roles-reach-same-length : (t : ℕ) → roles-reach-lts.Need-same-length (calls-
 roles-reach-same-length t c = c .before .before .before .before .before .before .before .loop .inv .1 ∙ sym (c .before .before .before .before .before .before .before .before .before .before .before .before .pre .1 .2)
 
 roles-reach-returns : (t : ℕ) → roles-reach-lts.Need-returns (calls-roles-reach t) (roles-reach-at t) roles-reach.Post roles-reach-Inv-loop roles-reach-μ-loop
-roles-reach-returns t c = c .before .before .before .before .before .before .before .loop .inv .3 _ (back (withoutRights (c .before .before .before .before .before .before .before .before .before .before .before .before .args .rules .now) (c .before .before .before .before .before .before .before .before .before .before .before .before .args .kinds .now)) (c .before .before .before .before .before .before .before .before .before .before .before .before .args .having .now) (c .before .before .before .before .before .before .before .before .before .before .before .before .args .state .now) (c .before .before .before .before .before .before .before .before .before .before .before .before .args .user) (c .before .before .before .before .before .before .before .loop .asked) (c .before .before .before .before .before .before .before .loop .i) _ (c .before .before .before .before .before .before .loop-test .taken) (tell-own (withoutRights (c .before .before .before .before .before .before .before .before .before .before .before .before .args .rules .now) (c .before .before .before .before .before .before .before .before .before .before .before .before .args .kinds .now)) (c .before .before .before .before .before .before .before .before .before .before .before .before .args .having .now) (c .before .before .before .before .before .before .before .before .before .before .before .before .args .state .now) (c .before .before .before .before .before .before .before .before .before .before .before .before .args .user) (c .before .before .before .before .before .before .before .loop .asked) _ (c .before .before .before .before .before .row-at .result) (c .before .before .before .before .before .row-at .ensures) (subst⁻¹ (λ (r : Row). r .role < 256) (c .before .before .before .before .before .row-at .ensures) (c .before .before .before .before .before .before .before .before .before .before .before .before .pre .1 .0 .fits _ (omega (arith, c .before .before .before .before .before .before .before .before .before .before .before .before .pre .1 .1, c .before .before .before .before .before .before .before .loop .inv .0, c .before .before .before .before .before .before .loop-test .taken)))) (sym (c .before .before .before .is-asked .ensures) ∙ not-false _ (c .before .before .if1 .left)) (sym (c .before .has-right .ensures) ∙ c .if2 .taken)))
+roles-reach-returns t c = c .before .before .before .before .before .before .before .loop .inv .3 _ (tell-down (withoutRights (c .before .before .before .before .before .before .before .before .before .before .before .before .args .rules .now) (c .before .before .before .before .before .before .before .before .before .before .before .before .args .kinds .now)) (c .before .before .before .before .before .before .before .before .before .before .before .before .args .having .now) (c .before .before .before .before .before .before .before .before .before .before .before .before .args .state .now) (c .before .before .before .before .before .before .before .before .before .before .before .before .args .user) (c .before .before .before .before .before .before .before .loop .asked) (c .before .before .before .before .before .before .before .loop .i) _ (c .before .before .before .before .before .before .loop-test .taken) (tell-own (withoutRights (c .before .before .before .before .before .before .before .before .before .before .before .before .args .rules .now) (c .before .before .before .before .before .before .before .before .before .before .before .before .args .kinds .now)) (c .before .before .before .before .before .before .before .before .before .before .before .before .args .having .now) (c .before .before .before .before .before .before .before .before .before .before .before .before .args .state .now) (c .before .before .before .before .before .before .before .before .before .before .before .before .args .user) (c .before .before .before .before .before .before .before .loop .asked) _ (c .before .before .before .before .before .row-at .result) (c .before .before .before .before .before .row-at .ensures) (subst⁻¹ (λ (r : Row). r .role < 256) (c .before .before .before .before .before .row-at .ensures) (c .before .before .before .before .before .before .before .before .before .before .before .before .pre .1 .0 .fits _ (omega (arith, c .before .before .before .before .before .before .before .before .before .before .before .before .pre .1 .1, c .before .before .before .before .before .before .before .loop .inv .0, c .before .before .before .before .before .before .loop-test .taken)))) (sym (c .before .before .before .is-asked .ensures) ∙ not-false _ (c .before .before .if1 .left)) (sym (c .before .has-right .ensures) ∙ c .if2 .taken)))
 
 roles-reach-ask-row-requires : (t : ℕ) → roles-reach-lts.Need-ask-row-requires (calls-roles-reach t) (roles-reach-at t) roles-reach.Post roles-reach-Inv-loop roles-reach-μ-loop
 roles-reach-ask-row-requires t c κs = c .before .before .before .before .before .before .before .before .loop .inv .1
@@ -207,13 +206,13 @@ roles-reach-same-length-2 : (t : ℕ) → roles-reach-lts.Need-same-length-2 (ca
 roles-reach-same-length-2 t c = c .before .before .certificates-reach .kept .1 .1 .1 .1 .0 ∙ (c .before .before .before .before .before .before .before .ask-row .ensures .grown (c .before .before .before .before .before .before .before .before .before .before .before .before .before .before .before .before .before .before .before .before .before .args .kinds .now) (c .before .before .before .before .before .before .before .before .before .before .before .before .before .before .before .before .loop .inv .2)) .size ∙ c .before .before .before .before .before .before .before .before .before .before .before .before .before .before .before .before .loop .inv .1 ∙ sym (c .before .before .before .before .before .before .before .before .before .before .before .before .before .before .before .before .before .before .before .before .before .pre .1 .2)
 
 roles-reach-returns-2 : (t : ℕ) → roles-reach-lts.Need-returns-2 (calls-roles-reach t) (roles-reach-at t) roles-reach.Post roles-reach-Inv-loop roles-reach-μ-loop
-roles-reach-returns-2 t c = c .before .before .before .before .before .before .before .before .before .before .before .before .before .before .before .before .loop .inv .3 _ (back (withoutRights (c .before .before .before .before .before .before .before .before .before .before .before .before .before .before .before .before .before .before .before .before .before .args .rules .now) (c .before .before .before .before .before .before .before .before .before .before .before .before .before .before .before .before .before .before .before .before .before .args .kinds .now)) (c .before .before .before .before .before .before .before .before .before .before .before .before .before .before .before .before .before .before .before .before .before .args .having .now) (c .before .before .before .before .before .before .before .before .before .before .before .before .before .before .before .before .before .before .before .before .before .args .state .now) (c .before .before .before .before .before .before .before .before .before .before .before .before .before .before .before .before .before .before .before .before .before .args .user) (c .before .before .before .before .before .before .before .before .before .before .before .before .before .before .before .before .loop .asked) (c .before .before .before .before .before .before .before .before .before .before .before .before .before .before .before .before .loop .i) _ (c .before .before .before .before .before .before .before .before .before .before .before .before .before .before .before .loop-test .taken) (tell-row (withoutRights (c .before .before .before .before .before .before .before .before .before .before .before .before .before .before .before .before .before .before .before .before .before .args .rules .now) (c .before .before .before .before .before .before .before .before .before .before .before .before .before .before .before .before .before .before .before .before .before .args .kinds .now)) (c .before .before .before .before .before .before .before .before .before .before .before .before .before .before .before .before .before .before .before .before .before .args .having .now) (c .before .before .before .before .before .before .before .before .before .before .before .before .before .before .before .before .before .before .before .before .before .args .state .now) (c .before .before .before .before .before .before .before .before .before .before .before .before .before .before .before .before .before .before .before .before .before .args .user) (c .before .before .before .before .before .before .before .before .before .before .before .before .before .before .before .before .loop .asked) _ (c .before .before .before .before .before .before .before .before .before .before .before .before .before .before .row-at .result) (c .before .before .before .before .before .before .before .before .before .before .before .before .before .before .row-at .ensures) (subst⁻¹ (λ (r : Row). r .role < 256) (c .before .before .before .before .before .before .before .before .before .before .before .before .before .before .row-at .ensures) (c .before .before .before .before .before .before .before .before .before .before .before .before .before .before .before .before .before .before .before .before .before .pre .1 .0 .fits _ (omega (arith, c .before .before .before .before .before .before .before .before .before .before .before .before .before .before .before .before .before .before .before .before .before .pre .1 .1, c .before .before .before .before .before .before .before .before .before .before .before .before .before .before .before .before .loop .inv .0, c .before .before .before .before .before .before .before .before .before .before .before .before .before .before .before .loop-test .taken)))) (sym (c .before .before .before .before .before .before .before .before .before .before .before .before .is-asked .ensures) ∙ not-false _ (c .before .before .before .before .before .before .before .before .before .before .before .if1 .left)) (c .before .before .before .before .before .before .before .before .before .before .before .before .before .before .before .before .before .before .before .before .before .pre .1 .0) (omega (arith, c .before .before .before .before .before .before .before .before .before .before .before .before .before .before .before .before .before .before .before .before .before .pre .1 .1, c .before .before .before .before .before .before .before .before .before .before .before .before .before .before .before .before .loop .inv .0, c .before .before .before .before .before .before .before .before .before .before .before .before .before .before .before .loop-test .taken)) _ (sym (c .before .before .before .before .before .before .before .before .before .before .has-right .ensures) ∙ c .before .before .before .before .before .before .before .before .before .if2 .left) (tell-part (c .before .before .before .before .before .before .before .before .before .before .before .before .before .before .before .before .before .before .before .before .before .args .rules .now) (c .before .before .before .before .before .before .before .before .before .before .before .before .before .before .before .before .before .before .before .before .before .args .kinds .now) (c .before .before .before .before .before .before .before .before .before .before .before .before .before .before .before .before .before .before .before .before .before .args .having .now) (c .before .before .before .before .before .before .before .before .before .before .before .before .before .before .before .before .before .before .before .before .before .args .state .now) (c .before .before .before .before .before .before .before .before .before .before .before .before .before .before .before .before .before .before .before .before .before .args .user) _ (c .before .before .before .before .before .before .before .before .before .before .before .before .before .before .row-at .result) (c .before .before .before .before .before .before .before .before .before .before .before .before .before .before .row-at .ensures) (c .before .before .before .before .before .before .before .before .before .before .before .before .before .before .before .before .loop .asked) _ _ (c .before .before .before .before .before .before .before .ask-row .ensures .grown (c .before .before .before .before .before .before .before .before .before .before .before .before .before .before .before .before .before .before .before .before .before .args .kinds .now) (c .before .before .before .before .before .before .before .before .before .before .before .before .before .before .before .before .loop .inv .2)) (c .before .before .certificates-reach .ensures))))
+roles-reach-returns-2 t c = c .before .before .before .before .before .before .before .before .before .before .before .before .before .before .before .before .loop .inv .3 _ (tell-down (withoutRights (c .before .before .before .before .before .before .before .before .before .before .before .before .before .before .before .before .before .before .before .before .before .args .rules .now) (c .before .before .before .before .before .before .before .before .before .before .before .before .before .before .before .before .before .before .before .before .before .args .kinds .now)) (c .before .before .before .before .before .before .before .before .before .before .before .before .before .before .before .before .before .before .before .before .before .args .having .now) (c .before .before .before .before .before .before .before .before .before .before .before .before .before .before .before .before .before .before .before .before .before .args .state .now) (c .before .before .before .before .before .before .before .before .before .before .before .before .before .before .before .before .before .before .before .before .before .args .user) (c .before .before .before .before .before .before .before .before .before .before .before .before .before .before .before .before .loop .asked) (c .before .before .before .before .before .before .before .before .before .before .before .before .before .before .before .before .loop .i) _ (c .before .before .before .before .before .before .before .before .before .before .before .before .before .before .before .loop-test .taken) (tell-row (withoutRights (c .before .before .before .before .before .before .before .before .before .before .before .before .before .before .before .before .before .before .before .before .before .args .rules .now) (c .before .before .before .before .before .before .before .before .before .before .before .before .before .before .before .before .before .before .before .before .before .args .kinds .now)) (c .before .before .before .before .before .before .before .before .before .before .before .before .before .before .before .before .before .before .before .before .before .args .having .now) (c .before .before .before .before .before .before .before .before .before .before .before .before .before .before .before .before .before .before .before .before .before .args .state .now) (c .before .before .before .before .before .before .before .before .before .before .before .before .before .before .before .before .before .before .before .before .before .args .user) (c .before .before .before .before .before .before .before .before .before .before .before .before .before .before .before .before .loop .asked) _ (c .before .before .before .before .before .before .before .before .before .before .before .before .before .before .row-at .result) (c .before .before .before .before .before .before .before .before .before .before .before .before .before .before .row-at .ensures) (subst⁻¹ (λ (r : Row). r .role < 256) (c .before .before .before .before .before .before .before .before .before .before .before .before .before .before .row-at .ensures) (c .before .before .before .before .before .before .before .before .before .before .before .before .before .before .before .before .before .before .before .before .before .pre .1 .0 .fits _ (omega (arith, c .before .before .before .before .before .before .before .before .before .before .before .before .before .before .before .before .before .before .before .before .before .pre .1 .1, c .before .before .before .before .before .before .before .before .before .before .before .before .before .before .before .before .loop .inv .0, c .before .before .before .before .before .before .before .before .before .before .before .before .before .before .before .loop-test .taken)))) (sym (c .before .before .before .before .before .before .before .before .before .before .before .before .is-asked .ensures) ∙ not-false _ (c .before .before .before .before .before .before .before .before .before .before .before .if1 .left)) (c .before .before .before .before .before .before .before .before .before .before .before .before .before .before .before .before .before .before .before .before .before .pre .1 .0) (omega (arith, c .before .before .before .before .before .before .before .before .before .before .before .before .before .before .before .before .before .before .before .before .before .pre .1 .1, c .before .before .before .before .before .before .before .before .before .before .before .before .before .before .before .before .loop .inv .0, c .before .before .before .before .before .before .before .before .before .before .before .before .before .before .before .loop-test .taken)) _ (sym (c .before .before .before .before .before .before .before .before .before .before .has-right .ensures) ∙ c .before .before .before .before .before .before .before .before .before .if2 .left) (tell-part (c .before .before .before .before .before .before .before .before .before .before .before .before .before .before .before .before .before .before .before .before .before .args .rules .now) (c .before .before .before .before .before .before .before .before .before .before .before .before .before .before .before .before .before .before .before .before .before .args .kinds .now) (c .before .before .before .before .before .before .before .before .before .before .before .before .before .before .before .before .before .before .before .before .before .args .having .now) (c .before .before .before .before .before .before .before .before .before .before .before .before .before .before .before .before .before .before .before .before .before .args .state .now) (c .before .before .before .before .before .before .before .before .before .before .before .before .before .before .before .before .before .before .before .before .before .args .user) _ (c .before .before .before .before .before .before .before .before .before .before .before .before .before .before .row-at .result) (c .before .before .before .before .before .before .before .before .before .before .before .before .before .before .row-at .ensures) (c .before .before .before .before .before .before .before .before .before .before .before .before .before .before .before .before .loop .asked) _ _ (c .before .before .before .before .before .before .before .ask-row .ensures .grown (c .before .before .before .before .before .before .before .before .before .before .before .before .before .before .before .before .before .before .before .before .before .args .kinds .now) (c .before .before .before .before .before .before .before .before .before .before .before .before .before .before .before .before .loop .inv .2)) (c .before .before .certificates-reach .ensures))))
 
 roles-reach-loop-less-2 : (t : ℕ) → roles-reach-lts.Need-loop-less-2 (calls-roles-reach t) (roles-reach-at t) roles-reach.Post roles-reach-Inv-loop roles-reach-μ-loop
 roles-reach-loop-less-2 t c = search needs
 
 roles-reach-loop-again-2 : (t : ℕ) → roles-reach-lts.Need-loop-again-2 (calls-roles-reach t) (roles-reach-at t) roles-reach.Post roles-reach-Inv-loop roles-reach-μ-loop
-roles-reach-loop-again-2 t c = (omega (arith, c .before .before .before .before .before .before .before .before .before .before .before .before .loop .inv .0), (c .before .before .before .ask-row .ensures .grown (c .before .before .before .before .before .before .before .before .before .before .before .before .before .before .before .before .before .args .kinds .now) (c .before .before .before .before .before .before .before .before .before .before .before .before .loop .inv .2)) .size ∙ c .before .before .before .before .before .before .before .before .before .before .before .before .loop .inv .1, (c .before .before .before .ask-row .ensures .grown (c .before .before .before .before .before .before .before .before .before .before .before .before .before .before .before .before .before .args .kinds .now) (c .before .before .before .before .before .before .before .before .before .before .before .before .loop .inv .2)) .closed, λ r h. c .before .before .before .before .before .before .before .before .before .before .before .before .loop .inv .3 _ (back (withoutRights (c .before .before .before .before .before .before .before .before .before .before .before .before .before .before .before .before .before .args .rules .now) (c .before .before .before .before .before .before .before .before .before .before .before .before .before .before .before .before .before .args .kinds .now)) (c .before .before .before .before .before .before .before .before .before .before .before .before .before .before .before .before .before .args .having .now) (c .before .before .before .before .before .before .before .before .before .before .before .before .before .before .before .before .before .args .state .now) (c .before .before .before .before .before .before .before .before .before .before .before .before .before .before .before .before .before .args .user) (c .before .before .before .before .before .before .before .before .before .before .before .before .loop .asked) (c .before .before .before .before .before .before .before .before .before .before .before .before .loop .i) _ (c .before .before .before .before .before .before .before .before .before .before .before .loop-test .taken) (tell-row (withoutRights (c .before .before .before .before .before .before .before .before .before .before .before .before .before .before .before .before .before .args .rules .now) (c .before .before .before .before .before .before .before .before .before .before .before .before .before .before .before .before .before .args .kinds .now)) (c .before .before .before .before .before .before .before .before .before .before .before .before .before .before .before .before .before .args .having .now) (c .before .before .before .before .before .before .before .before .before .before .before .before .before .before .before .before .before .args .state .now) (c .before .before .before .before .before .before .before .before .before .before .before .before .before .before .before .before .before .args .user) (c .before .before .before .before .before .before .before .before .before .before .before .before .loop .asked) _ (c .before .before .before .before .before .before .before .before .before .before .row-at .result) (c .before .before .before .before .before .before .before .before .before .before .row-at .ensures) (subst⁻¹ (λ (r : Row). r .role < 256) (c .before .before .before .before .before .before .before .before .before .before .row-at .ensures) (c .before .before .before .before .before .before .before .before .before .before .before .before .before .before .before .before .before .pre .1 .0 .fits _ (omega (arith, c .before .before .before .before .before .before .before .before .before .before .before .before .before .before .before .before .before .pre .1 .1, c .before .before .before .before .before .before .before .before .before .before .before .before .loop .inv .0, c .before .before .before .before .before .before .before .before .before .before .before .loop-test .taken)))) (sym (c .before .before .before .before .before .before .before .before .is-asked .ensures) ∙ not-false _ (c .before .before .before .before .before .before .before .if1 .left)) (c .before .before .before .before .before .before .before .before .before .before .before .before .before .before .before .before .before .pre .1 .0) (omega (arith, c .before .before .before .before .before .before .before .before .before .before .before .before .before .before .before .before .before .pre .1 .1, c .before .before .before .before .before .before .before .before .before .before .before .before .loop .inv .0, c .before .before .before .before .before .before .before .before .before .before .before .loop-test .taken)) _ (sym (c .before .before .before .before .before .before .has-right .ensures) ∙ c .before .before .before .before .before .if2 .left) (tell-all (c .before .before .before .before .before .before .before .before .before .before .before .before .before .before .before .before .before .args .rules .now) (c .before .before .before .before .before .before .before .before .before .before .before .before .before .before .before .before .before .args .kinds .now) (c .before .before .before .before .before .before .before .before .before .before .before .before .before .before .before .before .before .args .having .now) (c .before .before .before .before .before .before .before .before .before .before .before .before .before .before .before .before .before .args .state .now) (c .before .before .before .before .before .before .before .before .before .before .before .before .before .before .before .before .before .args .user) _ (c .before .before .before .before .before .before .before .before .before .before .row-at .result) (c .before .before .before .before .before .before .before .before .before .before .row-at .ensures) (c .before .before .before .before .before .before .before .before .before .before .before .before .loop .asked) _ (c .before .before .before .before .before .before .before .before .before .before .before .before .before .before .before .before .before .pre .1 .0) (omega (arith, c .before .before .before .before .before .before .before .before .before .before .before .before .before .before .before .before .before .pre .1 .1, c .before .before .before .before .before .before .before .before .before .before .before .before .loop .inv .0)) r (c .before .before .before .ask-row .ensures .grown (c .before .before .before .before .before .before .before .before .before .before .before .before .before .before .before .before .before .args .kinds .now) (c .before .before .before .before .before .before .before .before .before .before .before .before .loop .inv .2)) (c .before .before .before .ask-row .ensures .each (not-false _ (c .if3 .left)) (c .before .before .before .before .before .before .before .before .before .before .before .before .before .before .before .before .before .args .kinds .now) (c .before .before .before .before .before .before .before .before .before .before .before .before .loop .inv .2)) h))))
+roles-reach-loop-again-2 t c = (omega (arith, c .before .before .before .before .before .before .before .before .before .before .before .before .loop .inv .0), (c .before .before .before .ask-row .ensures .grown (c .before .before .before .before .before .before .before .before .before .before .before .before .before .before .before .before .before .args .kinds .now) (c .before .before .before .before .before .before .before .before .before .before .before .before .loop .inv .2)) .size ∙ c .before .before .before .before .before .before .before .before .before .before .before .before .loop .inv .1, (c .before .before .before .ask-row .ensures .grown (c .before .before .before .before .before .before .before .before .before .before .before .before .before .before .before .before .before .args .kinds .now) (c .before .before .before .before .before .before .before .before .before .before .before .before .loop .inv .2)) .closed, λ r h. c .before .before .before .before .before .before .before .before .before .before .before .before .loop .inv .3 _ (tell-down (withoutRights (c .before .before .before .before .before .before .before .before .before .before .before .before .before .before .before .before .before .args .rules .now) (c .before .before .before .before .before .before .before .before .before .before .before .before .before .before .before .before .before .args .kinds .now)) (c .before .before .before .before .before .before .before .before .before .before .before .before .before .before .before .before .before .args .having .now) (c .before .before .before .before .before .before .before .before .before .before .before .before .before .before .before .before .before .args .state .now) (c .before .before .before .before .before .before .before .before .before .before .before .before .before .before .before .before .before .args .user) (c .before .before .before .before .before .before .before .before .before .before .before .before .loop .asked) (c .before .before .before .before .before .before .before .before .before .before .before .before .loop .i) _ (c .before .before .before .before .before .before .before .before .before .before .before .loop-test .taken) (tell-row (withoutRights (c .before .before .before .before .before .before .before .before .before .before .before .before .before .before .before .before .before .args .rules .now) (c .before .before .before .before .before .before .before .before .before .before .before .before .before .before .before .before .before .args .kinds .now)) (c .before .before .before .before .before .before .before .before .before .before .before .before .before .before .before .before .before .args .having .now) (c .before .before .before .before .before .before .before .before .before .before .before .before .before .before .before .before .before .args .state .now) (c .before .before .before .before .before .before .before .before .before .before .before .before .before .before .before .before .before .args .user) (c .before .before .before .before .before .before .before .before .before .before .before .before .loop .asked) _ (c .before .before .before .before .before .before .before .before .before .before .row-at .result) (c .before .before .before .before .before .before .before .before .before .before .row-at .ensures) (subst⁻¹ (λ (r : Row). r .role < 256) (c .before .before .before .before .before .before .before .before .before .before .row-at .ensures) (c .before .before .before .before .before .before .before .before .before .before .before .before .before .before .before .before .before .pre .1 .0 .fits _ (omega (arith, c .before .before .before .before .before .before .before .before .before .before .before .before .before .before .before .before .before .pre .1 .1, c .before .before .before .before .before .before .before .before .before .before .before .before .loop .inv .0, c .before .before .before .before .before .before .before .before .before .before .before .loop-test .taken)))) (sym (c .before .before .before .before .before .before .before .before .is-asked .ensures) ∙ not-false _ (c .before .before .before .before .before .before .before .if1 .left)) (c .before .before .before .before .before .before .before .before .before .before .before .before .before .before .before .before .before .pre .1 .0) (omega (arith, c .before .before .before .before .before .before .before .before .before .before .before .before .before .before .before .before .before .pre .1 .1, c .before .before .before .before .before .before .before .before .before .before .before .before .loop .inv .0, c .before .before .before .before .before .before .before .before .before .before .before .loop-test .taken)) _ (sym (c .before .before .before .before .before .before .has-right .ensures) ∙ c .before .before .before .before .before .if2 .left) (tell-all (c .before .before .before .before .before .before .before .before .before .before .before .before .before .before .before .before .before .args .rules .now) (c .before .before .before .before .before .before .before .before .before .before .before .before .before .before .before .before .before .args .kinds .now) (c .before .before .before .before .before .before .before .before .before .before .before .before .before .before .before .before .before .args .having .now) (c .before .before .before .before .before .before .before .before .before .before .before .before .before .before .before .before .before .args .state .now) (c .before .before .before .before .before .before .before .before .before .before .before .before .before .before .before .before .before .args .user) _ (c .before .before .before .before .before .before .before .before .before .before .row-at .result) (c .before .before .before .before .before .before .before .before .before .before .row-at .ensures) (c .before .before .before .before .before .before .before .before .before .before .before .before .loop .asked) _ (c .before .before .before .before .before .before .before .before .before .before .before .before .before .before .before .before .before .pre .1 .0) (omega (arith, c .before .before .before .before .before .before .before .before .before .before .before .before .before .before .before .before .before .pre .1 .1, c .before .before .before .before .before .before .before .before .before .before .before .before .loop .inv .0)) r (c .before .before .before .ask-row .ensures .grown (c .before .before .before .before .before .before .before .before .before .before .before .before .before .before .before .before .before .args .kinds .now) (c .before .before .before .before .before .before .before .before .before .before .before .before .loop .inv .2)) (c .before .before .before .ask-row .ensures .each (not-false _ (c .if3 .left)) (c .before .before .before .before .before .before .before .before .before .before .before .before .before .before .before .before .before .args .kinds .now) (c .before .before .before .before .before .before .before .before .before .before .before .before .loop .inv .2)) h))))
 
 roles-reach-same-length-3 : (t : ℕ) → roles-reach-lts.Need-same-length-3 (calls-roles-reach t) (roles-reach-at t) roles-reach.Post roles-reach-Inv-loop roles-reach-μ-loop
 roles-reach-same-length-3 t c = c .before .loop .inv .1 ∙ sym (c .before .before .before .before .before .before .pre .1 .2)

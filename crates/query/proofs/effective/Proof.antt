@@ -1,4 +1,4 @@
-use mathlib.Core.Path.{sym, ap, _∙_, subst⁻¹}
+use mathlib.Core.Path.{sym, ap, _∙_}
 use mathlib.Core.List.{[], _∷_}
 use native.Mathlib.Omega.{arith}
 use borrow.Author.Tests.{le-ltb, not-true, not-false}

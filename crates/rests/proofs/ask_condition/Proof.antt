@@ -1,9 +1,8 @@
-use native.Mathlib.Omega.{arith}
-use mathlib.Core.Path.{sym, ap, _∙_, subst⁻¹}
+use mathlib.Core.Path.{ap, _∙_, subst⁻¹}
 use mathlib.Core.Bool.{Bool}
 use mathlib.Core.List.{List}
 use lib.ListN.{length}
-use Rattle.rests.specs.Marked.{Closed}
+use Rattle.rests.specs.Asked.{AskedThrough}
 use Rattle.rests.proofs.Marking.{asked-then}
 use borrow.Author.Needs.{needs}
 use Rattle.rests.proofs.ask_condition.Statement.{statement}
@@ -19,7 +18,7 @@ returns : tie.Need-returns
 returns c = c .before .before .before .ask-known .ensures .known (c .if1 .taken) (c .before .before .before .before .before .before .before .args .kinds .now) (c .before .before .before .before .before .before .before .pre .1)
 
 ask-kind-requires : tie.Need-ask-kind-requires
-ask-kind-requires c κs = let u = c .before .before .before .before .ask-known .ensures .unknown (c .before .if1 .left) in (ap length (u .0) ∙ c .before .before .before .before .before .before .before .before .pre .0, u .1, u .2, subst⁻¹ (λ (x : List Bool). Closed (c .before .before .before .before .before .before .before .before .args .kinds .now) x) (u .0) (c .before .before .before .before .before .before .before .before .pre .1))
+ask-kind-requires c κs = let u = c .before .before .before .before .ask-known .ensures .unknown (c .before .if1 .left) in (ap length (u .0) ∙ c .before .before .before .before .before .before .before .before .pre .0, u .1, u .2, subst⁻¹ (λ (x : List Bool). AskedThrough (c .before .before .before .before .before .before .before .before .args .kinds .now) x) (u .0) (c .before .before .before .before .before .before .before .before .pre .1))
 
 same-length-2 : tie.Need-same-length-2
 same-length-2 c = search needs

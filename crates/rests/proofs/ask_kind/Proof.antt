@@ -1,15 +1,15 @@
 -- The invariant: the roles passed are marked beside what was marked before.
-use Prim.Native.Nat.{ℕ, _-_, _≤_}
-use mathlib.Core.Path.{_≡_, refl, sym, _∙_}
+use Prim.Native.Nat.{_-_, _≤_}
+use mathlib.Core.Path.{_≡_, refl}
 use native.Mathlib.Omega.{arith}
 use lib.ListN.{length, length-set}
-use Rattle.rests.proofs.Marking.{Half, half-none, half-more, half-beyond, kind-marked}
+use Rattle.rests.proofs.Marking.{RolesMarked, roles-none, roles-more, roles-beyond, kind-marked}
 use borrow.Author.Needs.{needs}
 use Rattle.rests.proofs.ask_kind.Statement.{statement}
 use Rattle.rests.proofs.ask_kind.Tie as tie
 
 abbrev Inv-loop : tie.InvT-loop
-Inv-loop kinds c asked₀ roles n j₀ asked j = (j ≤ n) × Half asked₀ asked roles j
+Inv-loop kinds c asked₀ roles n j₀ asked j = (j ≤ n) × RolesMarked asked₀ asked roles j
 
 abbrev μ-loop : tie.MeasureT-loop
 μ-loop kinds c asked₀ roles n j₀ asked j = n - j
@@ -18,7 +18,7 @@ roles-asked-requires : tie.Need-roles-asked-requires Inv-loop μ-loop
 roles-asked-requires c κs = search needs
 
 loop-holds : tie.Need-loop-holds Inv-loop μ-loop
-loop-holds c = (omega arith, half-none _ _)
+loop-holds c = (omega arith, roles-none _ _)
 
 mul-role : tie.Need-mul-role Inv-loop μ-loop
 mul-role c = search needs
@@ -39,13 +39,13 @@ loop-less : tie.Need-loop-less Inv-loop μ-loop
 loop-less c = search needs
 
 loop-again : tie.Need-loop-again Inv-loop μ-loop
-loop-again c = (omega arith, half-more _ _ _ _ _ refl (c .before .before .before .loop .inv .1) (c .wide .result) (c .before .before .before .before .before .before .before .before .pre .0) (c .wide .ensures) (c .before .if1 .taken))
+loop-again c = (omega arith, roles-more _ _ _ _ _ refl (c .before .before .before .loop .inv .1) (c .wide .result) (c .before .before .before .before .before .before .before .before .pre .0) (c .wide .ensures) (c .before .if1 .taken))
 
 loop-less-2 : tie.Need-loop-less-2 Inv-loop μ-loop
 loop-less-2 c = search needs
 
 loop-again-2 : tie.Need-loop-again-2 Inv-loop μ-loop
-loop-again-2 c = (omega arith, half-beyond _ _ _ _ _ refl (c .before .before .loop .inv .1) (c .if1 .left))
+loop-again-2 c = (omega arith, roles-beyond _ _ _ _ _ refl (c .before .before .loop .inv .1) (c .if1 .left))
 
 wide-requires-2 : tie.Need-wide-requires-2 Inv-loop μ-loop
 wide-requires-2 c κs = search needs

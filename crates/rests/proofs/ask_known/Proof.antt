@@ -1,6 +1,5 @@
 use mathlib.Core.Path.{refl}
 use Rattle.rests.proofs.Marking.{known-role, known-kind, known-fact}
-use native.Mathlib.Omega.{arith}
 use borrow.Author.Needs.{needs}
 use Rattle.rests.proofs.ask_known.Statement.{statement}
 use Rattle.rests.proofs.ask_known.Tie as tie

@@ -1,18 +1,18 @@
 -- The invariant: the conditions passed have asked, and nothing else was marked.
 use Prim.Native.Nat.{ℕ, _-_, _≤_, _<_}
-use mathlib.Core.Path.{_≡_, refl, sym, _∙_}
+use mathlib.Core.Path.{_≡_, refl, _∙_}
 use mathlib.Core.List.{List}
 use native.Mathlib.Omega.{arith}
 use borrow.Author.Tests.{not-true, not-false}
 use lib.ListN.{length, getD}
-use Rattle.rests.specs.Marked.{Answered, Closed, Grown}
+use Rattle.rests.specs.Asked.{HasAsked, AskedThrough, Grown}
 use Rattle.rests.proofs.Marking.{grown-none, grown-next, each-next, row-asked, row-left}
 use borrow.Author.Needs.{needs}
 use Rattle.rests.proofs.ask_row.Statement.{statement}
 use Rattle.rests.proofs.ask_row.Tie as tie
 
 abbrev Inv-loop : tie.InvT-loop
-Inv-loop rules asked₀ conditions m i₀ asked i = (i ≤ m) × (length asked ≡ length asked₀) × ((kinds : List ℕ) → Closed kinds asked₀ → Grown kinds asked₀ asked conditions i × ((j : ℕ) → j < i → Answered kinds asked (getD conditions j 0)))
+Inv-loop rules asked₀ conditions m i₀ asked i = (i ≤ m) × (length asked ≡ length asked₀) × ((kinds : List ℕ) → AskedThrough kinds asked₀ → Grown kinds asked₀ asked conditions i × ((j : ℕ) → j < i → HasAsked kinds asked (getD conditions j 0)))
 
 abbrev μ-loop : tie.MeasureT-loop
 μ-loop rules asked₀ conditions m i₀ asked i = m - i

@@ -11,7 +11,7 @@ use Rattle.table.proofs.Entries.{sized}
 use Rattle.policy.specs.Lent.{kindsOnly}
 use Rattle.policy.proofs.Clauses.{here, later, fails, passes}
 use Rattle.sound.proofs.Ranges.{certificates-range, few-kinds}
-use Rattle.sound.proofs.Rights.{certificates-same}
+use Rattle.sound.proofs.Unread.{certificates-same}
 use borrow.Author.Needs.{needs}
 use Rattle.sound.proofs.state_sound.Statement.{statement}
 use Rattle.sound.proofs.state_sound.Tie as tie

@@ -16,8 +16,8 @@ use Rattle.table.proofs.Entries.{any-next}
 use Rattle.index.proofs.Holding.{rule-by, another-by}
 use Rattle.inner.proofs.First.{first-hit, first-missing}
 use borrow.Author.Needs.{needs}
-use Rattle.inner.proofs.lowest_marked.Statement.{statement}
-use Rattle.inner.proofs.lowest_marked.Tie as tie
+use Rattle.inner.proofs.lowest_satisfied.Statement.{statement}
+use Rattle.inner.proofs.lowest_satisfied.Tie as tie
 
 abbrev test : List ℕ → List ℕ → List ℕ → List ℕ → ℕ → Rule → Bool
 test rules kinds s words q = satisfiedBy (block words 0) (worldAt rules kinds s) q
@@ -66,8 +66,8 @@ returns-2 c =
     let e : c .before .loop .i ≡ length (c .before .before .before .before .before .before .args .rules .now) / 11 = omega arith in
     e ∙ sym (first-missing ruleFrom 11 (test (c .before .before .before .before .before .before .args .rules .now) (c .before .before .before .before .before .before .args .kinds .now) (c .before .before .before .before .before .before .args .state .now) (c .before .before .before .before .before .before .args .words .now) (c .before .before .before .before .before .before .args .role)) (c .before .before .before .before .before .before .args .rules .now) (length (c .before .before .before .before .before .before .args .rules .now) / 11) (ap (λ (n : ℕ). any (test (c .before .before .before .before .before .before .args .rules .now) (c .before .before .before .before .before .before .args .kinds .now) (c .before .before .before .before .before .before .args .state .now) (c .before .before .before .before .before .before .args .words .now) (c .before .before .before .before .before .before .args .role)) (entries ruleFrom 11 (c .before .before .before .before .before .before .args .rules .now) n)) (sym e) ∙ c .before .loop .inv .1))
 
-pub lowest-marked-spec : {M : Type 1} → statement M
-lowest-marked-spec =
+pub lowest-satisfied-spec : {M : Type 1} → statement M
+lowest-satisfied-spec =
     tie.close
     (tie.spec
     Inv-loop

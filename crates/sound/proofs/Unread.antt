@@ -40,9 +40,9 @@ module _ (p₁ p₂ : Policy) (kinds : p₁ .kinds ≡ p₂ .kinds) where
     rows-same : (rows : List Row) → allOverEarlier (rowSound (worldOf p₁ t)) [] rows ≡ allOverEarlier (rowSound (worldOf p₂ t)) [] rows
     rows-same rows = λ i. allOverEarlier (λ (earlier : List Row) (r : Row). every (row-clauses-same earlier r i)) [] rows
 
-pub sound-withoutRights : (t : Tables) (s : List ℕ) → sound (policyOf (withoutRights (t .rules) (t .kinds))) s ≡ sound (policyOf t) s
+pub sound-without-rights : (t : Tables) (s : List ℕ) → sound (policyOf (withoutRights (t .rules) (t .kinds))) s ≡ sound (policyOf t) s
 unfolding sound soundRecords policyOf
-sound-withoutRights t s =
+sound-without-rights t s =
     λ i.
     wellFormed s
     && (certificates-same (policyOf (withoutRights (t .rules) (t .kinds))) (policyOf t) refl (decode s .certificates) i

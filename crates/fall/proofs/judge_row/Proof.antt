@@ -10,8 +10,8 @@ use Rattle.table.specs.Entries.{rowAt, firstRows, worldAt}
 use Rattle.index.proofs.Indexing.{supported-there}
 use Rattle.fall.proofs.Swept.{row-kept}
 use borrow.Author.Needs.{needs}
-use Rattle.fall.proofs.judge.Statement.{statement}
-use Rattle.fall.proofs.judge.Tie as tie
+use Rattle.fall.proofs.judge_row.Statement.{statement}
+use Rattle.fall.proofs.judge_row.Tie as tie
 
 row-at-requires : tie.Need-row-at-requires
 row-at-requires c κs = search needs
@@ -63,8 +63,8 @@ returns-2 c =
     let e : false ≡ supported (worldAt (c .before .before .before .before .before .before .before .before .before .before .before .before .args .rules .now) (c .before .before .before .before .before .before .before .before .before .before .before .before .args .kinds .now) (c .before .before .before .before .before .before .before .before .before .before .before .before .args .state .now)) (firstRows (c .before .before .before .before .before .before .before .before .before .before .before .before .args .state .now) (c .before .before .before .before .before .before .before .before .before .before .before .before .args .w)) (rowAt (c .before .before .before .before .before .before .before .before .before .before .before .before .args .state .now) (c .before .before .before .before .before .before .before .before .before .before .before .before .args .i)) = sym (c .if1 .left) ∙ c .before .row-supported .ensures ∙ supported-there (c .before .before .before .before .before .before .before .before .before .before .before .before .args .numbers .now) (c .before .before .before .before .before .before .before .before .before .before .before .before .args .words .now) (firstRows (c .before .before .before .before .before .before .before .before .before .before .before .before .args .state .now) (c .before .before .before .before .before .before .before .before .before .before .before .before .args .w)) (worldAt (c .before .before .before .before .before .before .before .before .before .before .before .before .args .rules .now) (c .before .before .before .before .before .before .before .before .before .before .before .before .args .kinds .now) (c .before .before .before .before .before .before .before .before .before .before .before .before .args .state .now)) (c .before .before .before .before .before .before .before .before .before .before .before .before .pre .6) (c .before .before .before .before .before .row-at .result .user) (c .before .before .before .before .base-of .result) (c .before .before .before .before .base-of .ensures) known (c .before .before .before .before .before .row-at .result) refl ∙ ap (supported (worldAt (c .before .before .before .before .before .before .before .before .before .before .before .before .args .rules .now) (c .before .before .before .before .before .before .before .before .before .before .before .before .args .kinds .now) (c .before .before .before .before .before .before .before .before .before .before .before .before .args .state .now)) (firstRows (c .before .before .before .before .before .before .before .before .before .before .before .before .args .state .now) (c .before .before .before .before .before .before .before .before .before .before .before .before .args .w))) (c .before .before .before .before .before .row-at .ensures) in
     (record { stood = λ q. absurd (false≢true (e ∙ q)); fell = λ q. (refl, refl) }, c .before .before .before .before .before .before .before .before .before .before .before .before .pre .6)
 
-pub judge-spec : {M : Type 1} → statement M
-judge-spec =
+pub judge-row-spec : {M : Type 1} → statement M
+judge-row-spec =
     tie.close
     (tie.spec
     row-at-requires
