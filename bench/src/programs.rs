@@ -3,7 +3,7 @@
 use crate::call::Call::{self, *};
 use crate::case::{Again, Case, Measured};
 use crate::process::{room, Input, Programs, OURS, SECOND};
-use crate::scene::{Scene, FULL, LATE_USER, NO_PRIVILEGE};
+use crate::scene::{Scene, Size, FULL, LATE_USER, MIDDLE, NO_PRIVILEGE};
 use crate::table::{beside, Cell, Line};
 
 /// In a pass each program runs the texts of a session in turns for about so long, in microseconds, and at least so often.
@@ -96,26 +96,47 @@ impl Session {
     }
 }
 
-/// Every session, in the order of the table.
-pub fn all() -> Result<Vec<Session>, String> {
-    let full = Scene::workshop(&FULL)?;
-    let (user, role) = FULL.deep_user();
-    let (manager, kind) = (FULL.manager(), FULL.kinds - 1);
+/// The calls that are measured as events on a workshop.
+fn on_workshop(scene: &Scene, size: &Size, tables: &'static str) -> Result<(Vec<(Call, u16, u16)>, Vec<Session>), String> {
+    let (user, role) = size.deep_user();
+    let (manager, kind) = (size.manager(), size.kinds - 1);
     let moves = [(Logout(LATE_USER), 0, 1), (Activate(LATE_USER, manager), 0, 2 * manager + 1)];
     let papers = [(Withdraw(LATE_USER, kind, LATE_USER), 0, 0), (Appoint(LATE_USER, LATE_USER, kind), 0, 0)];
     let idle = [(Environment(40, 0), 0, 0)];
     let invoke = [(Invoke(user, NO_PRIVILEGE), 0, 0)];
     let effective = [(Effective(user, role, NO_PRIVILEGE), 0, 0)];
-    let mixed = [&moves[..], &papers, &idle, &invoke, &effective].concat();
-    let diamond = |role| [(Effective(0, role, NO_PRIVILEGE), 0, 0)];
+    let sessions = vec![
+        Session::of_events(scene, tables, "logout, then activate", &moves)?,
+        Session::of_events(scene, tables, "withdraw, then appoint", &papers)?,
+        Session::of_events(scene, tables, "environment, fells 0", &idle)?,
+        Session::of_events(scene, tables, "invoke, none", &invoke)?,
+        Session::of_events(scene, tables, "effective, none", &effective)?,
+    ];
+    Ok(([&moves[..], &papers, &idle, &invoke, &effective].concat(), sessions))
+}
+
+/// Nobody is active: what is refused, and what changes nothing.
+fn on_empty() -> Result<Vec<Session>, String> {
+    let empty = Scene::empty()?;
+    let on = |name: &str, calls: &[(Call, u16, u16)]| Session::of_events(&empty, "empty", name, calls);
     Ok(vec![
-        Session::whole(&full, "full", &mixed),
-        Session::of_events(&full, "full", "logout, then activate", &moves)?,
-        Session::of_events(&full, "full", "withdraw, then appoint", &papers)?,
-        Session::of_events(&full, "full", "environment, fells 0", &idle)?,
-        Session::of_events(&full, "full", "invoke, none", &invoke)?,
-        Session::of_events(&full, "full", "effective, none", &effective)?,
-        Session::of_events(&Scene::diamond(&[])?, "diamond", "effective, none", &diamond(255))?,
-        Session::of_events(&Scene::diamond_through_kinds()?, "diamond, kinds", "effective, none", &diamond(254))?,
+        on("activate, then logout", &[(Activate(LATE_USER, 1), 0, 1), (Logout(LATE_USER), 0, 1)])?,
+        on("appoint, refused 7", &[(Appoint(LATE_USER, 41, 0), 7, 0)])?,
+        on("environment, fells 0", &[(Environment(40, 0), 0, 0)])?,
+        on("invoke, none", &[(Invoke(41, NO_PRIVILEGE), 0, 0)])?,
+        on("effective, refused 12", &[(Effective(41, 3, NO_PRIVILEGE), 12, 0)])?,
     ])
+}
+
+/// Every session, in the order of the table.
+pub fn all() -> Result<Vec<Session>, String> {
+    let full = Scene::workshop(&FULL)?;
+    let (mixed, on_full) = on_workshop(&full, &FULL, "full")?;
+    let (_, on_middle) = on_workshop(&Scene::workshop(&MIDDLE)?, &MIDDLE, "middle")?;
+    let diamond = |role| [(Effective(0, role, NO_PRIVILEGE), 0, 0)];
+    let mut sessions = vec![Session::whole(&full, "full", &mixed)];
+    sessions.extend(on_empty()?.into_iter().chain(on_middle).chain(on_full));
+    sessions.push(Session::of_events(&Scene::diamond(&[])?, "diamond", "effective, none", &diamond(255))?);
+    sessions.push(Session::of_events(&Scene::diamond_through_kinds()?, "diamond, kinds", "effective, none", &diamond(254))?);
+    Ok(sessions)
 }
