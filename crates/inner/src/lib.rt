@@ -10,7 +10,7 @@ ghost use Rattle.model.specs.Sound.{sameCertificate};
 ghost use Rattle.model.specs.Calls.{fresh as freshCall, activate as activateCall, appoint as appointCall};
 ghost use Rattle.model.specs.Words.{Sound};
 ghost use Rattle.table.specs.Entries.{worldAt, withoutRights, Sized};
-ghost use Rattle.index.specs.Marked.{Room, block, satisfiedBy};
+ghost use Rattle.index.specs.Marked.{has, satisfiedBy};
 ghost use Rattle.inner.specs.Lent.{lent, Answers};
 use model::Answer;
 use model::CERTIFICATE_COUNT;
@@ -31,16 +31,16 @@ pub fn refused(code: u16) -> Answer
 
 // The lowest rule for the role whose conditions all hold by the marks, or the number of rules if there is none. Most rules are for
 // other roles, so a rule's target is asked before anything else is made ready.
-fn lowest_satisfied(rules: &[u16], kinds: &[u16], state: &[u16], words: &[u16], role: u16) -> usize
-    requires { ⌜ Sized (now state) × Room (now words) 0 ⌝ }
-    ensures { λ r. ⌜ r ≡ firstPlace (satisfiedBy (block (now (words .entry)) 0) (worldAt (now (rules .entry)) (now (kinds .entry)) (now (state .entry))) role) (policyOf (withoutRights (now (rules .entry)) (now (kinds .entry))) .rules) ⌝ }
+fn lowest_satisfied(rules: &[u16], kinds: &[u16], state: &[u16], own: &[bool], role: u16) -> usize
+    requires { ⌜ Sized (now state) × (length (now own) ≡ 384) ⌝ }
+    ensures { λ r. ⌜ r ≡ firstPlace (satisfiedBy (has (now (own .entry))) (worldAt (now (rules .entry)) (now (kinds .entry)) (now (state .entry))) role) (policyOf (withoutRights (now (rules .entry)) (now (kinds .entry))) .rules) ⌝ }
 {
     let n = rules.len() / RULE_WIDTH;
     let mut i: usize = 0;
     while i < n {
         let rule = table::rule_at(rules, i);
         if rule.target == role {
-            if index::rule_holds(kinds, state, words, 0, rule) {
+            if index::rule_holds(kinds, state, own, rule) {
                 return i;
             }
         }
@@ -92,13 +92,13 @@ pub fn activate(
     if ROLES <= role {
         return refused(3);
     }
-    let mut words = [0u16; 24];
-    index::mark_roles(state, user, &mut words);
-    if index::role_marked(&words, 0, role) {
+    let mut own = [false; 384];
+    index::mark_roles(state, user, &mut own);
+    if index::role_marked(&own, role) {
         return refused(4);
     }
-    index::mark_kinds(state, user, &mut words);
-    let i = lowest_satisfied(rules, kinds, state, &words, role);
+    index::mark_kinds(state, user, &mut own);
+    let i = lowest_satisfied(rules, kinds, state, &own, role);
     if rules.len() / RULE_WIDTH <= i {
         return refused(5);
     }

@@ -1,2 +1,2 @@
 pub mod Traces
-pub mod Ranges
+pub mod Named

@@ -8,7 +8,7 @@ use Rattle.model.specs.declared.Certificate.{Certificate}
 use Rattle.marks.specs.Marks.{marked}
 
 abbrev pub trace : Certificate → ℕ
-trace c = (c .appointee * 128 + (c .kind + c .appointer * 61)) % 16384
+trace c = (c .appointee * 129 + (c .kind + c .appointer * 61)) % 16384
 
 -- these certificates have marked their traces
 pub record Traced (traces : List ℕ) (certificates : List Certificate) : Type 0 where

@@ -3,16 +3,15 @@ ghost use mathlib.Core.Path.{_≡_};
 ghost use Prim.Native.Nat.{_+_, _/_, _<_, _≤_};
 ghost use mathlib.Core.Bool.{true};
 ghost use mathlib.Core.List.{[]};
-ghost use lib.ListN.{length};
+ghost use lib.ListN.{length, take};
 ghost use Rattle.model.specs.Lists.{all, any, allOverEarlier, isBit};
 ghost use Rattle.model.specs.Limits.{stateSize, mostCertificates, mostKinds};
-ghost use Rattle.model.specs.Layout.{decode, policyOf, factNumbers, rowCount};
+ghost use Rattle.model.specs.Layout.{decode, policyOf, factNumbers};
 ghost use Rattle.model.specs.Sound.{wellFormed, sameCertificate, certificateSound, rowSound, sound};
-ghost use Rattle.table.specs.Entries.{rowAt, firstRows, certificateAt, firstCertificates, withoutRights, worldAt, Sized};
-ghost use Rattle.index.specs.Indexed.{InRange, Numbered, Indexed};
+ghost use Rattle.table.specs.Entries.{certificateAt, firstCertificates, withoutRights, worldAt, Sized};
 ghost use Rattle.policy.specs.Lent.{kindsOnly};
 ghost use Rattle.sound.specs.Traces.{trace, Traced};
-ghost use Rattle.sound.specs.Ranges.{rowInRange, CertificatesInRange};
+ghost use Rattle.sound.specs.Named.{rowNamed, rulesOnly, isOne, CertificatesInRange};
 use model::CERTIFICATE_COUNT;
 use model::CERTIFICATE_WIDTH;
 use model::CERTIFICATES;
@@ -118,7 +117,7 @@ fn trace_of(certificate: Certificate) -> usize
     let appointee = certificate.appointee as usize;
     let kind = certificate.kind as usize;
     let appointer = certificate.appointer as usize;
-    (appointee * 128 + (kind + appointer * 61)) % TRACES
+    (appointee * 129 + (kind + appointer * 61)) % TRACES
 }
 
 // The certificate is one of the first k, which have marked their traces: only where its own trace is marked are they looked through.
@@ -178,9 +177,9 @@ fn certificates_sound(kinds: &[u16], state: &[u16]) -> bool
     each_certificate_sound(kinds, state, &mut traces)
 }
 
-// The row's user and role are in range.
-fn row_in_range(row: Row) -> bool
-    ensures { λ r. ⌜ r ≡ rowInRange row ⌝ }
+// "ranges are kept, .. each active row's rule exists and has that role as target"
+fn row_named(rules: &[u16], row: Row) -> bool
+    ensures { λ r. ⌜ r ≡ rowNamed (rulesOnly (now (rules .entry))) row ⌝ }
 {
     if row.user >= USERS {
         return false;
@@ -188,73 +187,22 @@ fn row_in_range(row: Row) -> bool
     if row.role >= ROLES {
         return false;
     }
-    true
-}
-
-fn rows_in_range(state: &[u16]) -> bool
-    requires { ⌜ Sized (now state) ⌝ }
-    ensures { λ r. ⌜ r ≡ all rowInRange (decode (now (state .entry)) .rows) ⌝ }
-{
-    let n = table::wide(state[ROW_COUNT]);
-    let mut i: usize = 0;
-    while i < n {
-        if !row_in_range(table::row_at(state, i)) {
-            return false;
-        }
-        i += 1;
-    }
-    true
-}
-
-// "each active row's rule exists and has that role as target, and each of its membership conditions holds, where "active" means
-// active in an earlier row of the same user". The earlier rows are entered in the index, and this one if it is sound.
-fn row_sound(
-    rules: &[u16],
-    kinds: &[u16],
-    state: &[u16],
-    numbers: &[u16],
-    words: &mut [u16],
-    i: usize,
-) -> bool
-    requires { ⌜ InRange (now state) × Numbered (now state) (now numbers) × Indexed (now numbers) (now words) (firstRows (now state) i) (decode (now state) .certificates) × (i < rowCount (now state)) ⌝ }
-    ensures answer { λ r. ⌜ r ≡ rowSound (worldAt (now (rules .entry)) (now (kinds .entry)) (now (state .entry))) (firstRows (now (state .entry)) i) (rowAt (now (state .entry)) i) ⌝ }
-    ensures entered { λ r. ⌜ (r ≡ true → Indexed (now (numbers .entry)) (now (words .exit)) (firstRows (now (state .entry)) (i + 1)) (decode (now (state .entry)) .certificates)) ⌝ }
-{
-    let row = table::row_at(state, i);
-    let base = index::base_of(numbers, row.user);
-    let at = base + table::wide(row.role);
-    if marks::is_marked(words, at) {
-        return false;
-    }
     let number = table::wide(row.rule);
     if number >= rules.len() / RULE_WIDTH {
         return false;
     }
     let rule = table::rule_numbered(rules, number);
-    if rule.target != row.role {
-        return false;
-    }
-    if !index::row_supported(rules, kinds, state, words, base, row) {
-        return false;
-    }
-    marks::mark(words, at);
-    true
+    rule.target == row.role
 }
 
-fn each_row_sound(
-    rules: &[u16],
-    kinds: &[u16],
-    state: &[u16],
-    numbers: &[u16],
-    words: &mut [u16],
-) -> bool
-    requires { ⌜ InRange (now state) × Numbered (now state) (now numbers) × Indexed (now numbers) (now words) [] (decode (now state) .certificates) ⌝ }
-    ensures { λ r. ⌜ r ≡ allOverEarlier (rowSound (worldAt (now (rules .entry)) (now (kinds .entry)) (now (state .entry)))) [] (decode (now (state .entry)) .rows) ⌝ }
+fn rows_named(rules: &[u16], state: &[u16]) -> bool
+    requires { ⌜ Sized (now state) ⌝ }
+    ensures { λ r. ⌜ r ≡ all (rowNamed (rulesOnly (now (rules .entry)))) (decode (now (state .entry)) .rows) ⌝ }
 {
     let n = table::wide(state[ROW_COUNT]);
     let mut i: usize = 0;
     while i < n {
-        if !row_sound(rules, kinds, state, numbers, words, i) {
+        if !row_named(rules, table::row_at(state, i)) {
             return false;
         }
         i += 1;
@@ -262,19 +210,33 @@ fn each_row_sound(
     true
 }
 
+// Each of the first n rows stays, and none stands twice.
+fn each_stays(verdicts: &[u8], n: usize) -> bool
+    requires { ⌜ n ≤ length (now verdicts) ⌝ }
+    ensures { λ r. ⌜ r ≡ all isOne (take n (now (verdicts .entry))) ⌝ }
+{
+    let mut i: usize = 0;
+    while i < n {
+        if verdicts[i] != support::STAYS {
+            return false;
+        }
+        i += 1;
+    }
+    true
+}
+
+// "no (user, role) .. stands twice, .. each of its membership conditions holds, where "active" means active in an earlier row of the same
+// user"
 fn rows_sound(rules: &[u16], kinds: &[u16], state: &[u16]) -> bool
     requires { ⌜ Sized (now state) × CertificatesInRange (now state) ⌝ }
     ensures { λ r. ⌜ r ≡ allOverEarlier (rowSound (worldAt (now (rules .entry)) (now (kinds .entry)) (now (state .entry)))) [] (decode (now (state .entry)) .rows) ⌝ }
 {
-    if !rows_in_range(state) {
+    if !rows_named(rules, state) {
         return false;
     }
-    let mut numbers = [0u16; 4096];
-    index::number_users(state, &mut numbers);
-    // 257 blocks of 384 marks: one for each number that a row may give its user, and block 0, which is nobody's.
-    let mut words = [0u16; 6168];
-    index::enter_certificates(state, &numbers, &mut words);
-    each_row_sound(rules, kinds, state, &numbers, &mut words)
+    let mut verdicts = [0u8; 256];
+    support::judge_rows(rules, kinds, state, &mut verdicts);
+    each_stays(&verdicts, table::wide(state[ROW_COUNT]))
 }
 
 // The state is well formed, and its certificates and active rows are sound, each over those before it.

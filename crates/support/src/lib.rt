@@ -1,0 +1,146 @@
+// Which rows keep their support, in one pass from the first row to the last. A row rests on earlier rows of its own user only, so users are
+// judged one after the other, each along the chain of the user's rows: one user's marks are all that is kept at a time.
+ghost use mathlib.Core.Path.{_≡_};
+ghost use mathlib.Core.Logic.{_≢_};
+ghost use mathlib.Core.Bool.{false};
+ghost use mathlib.Core.List.{[]};
+ghost use Prim.Native.Nat.{ℕ, _+_, _<_};
+ghost use lib.ListN.{replicate};
+ghost use Rattle.model.specs.Layout.{decode, rowCount, certificateCount, rowsAt, certificatesAt};
+ghost use Rattle.table.specs.Entries.{rowAt, worldAt};
+ghost use Rattle.index.specs.Owned.{InRange, Own};
+ghost use Rattle.chains.specs.Chained.{Begins, GoesOn};
+ghost use Rattle.support.specs.Verdicts.{kept, verdictAt, Right, UserJudged, Judged};
+use model::CERTIFICATE_COUNT;
+use model::CERTIFICATES;
+use model::ROW_COUNT;
+use model::ROWS;
+
+// From which mark on they are kinds.
+const KINDS: usize = 256;
+
+// What is said of a row: 0 where it is not judged yet.
+pub const STAYS: u8 = 1;
+
+pub const FALLS: u8 = 2;
+
+// It stays, and its user is in its role by an earlier row.
+pub const TWICE: u8 = 3;
+
+// The kinds that stand for the user are marked, along the chain of the user's certificates.
+fn enter_kinds(state: &[u16], heads: &[u16], next: &[u16], user: u16, own: &mut [bool])
+    requires { ⌜ InRange (now state) × Begins (now state) certificatesAt (certificateCount (now state)) 0 (now heads) × GoesOn (now state) certificatesAt (certificateCount (now state)) 0 (now next) × (now own ≡ replicate 384 false) ⌝ }
+    ensures { λ r. ⌜ Own user (now (own .exit)) [] (decode (now (state .entry)) .certificates) ⌝ }
+{
+    let n = table::wide(state[CERTIFICATE_COUNT]);
+    let mut k = table::wide(heads[chains::bucket_of(user)]);
+    while k < n {
+        let certificate = table::certificate_at(state, k);
+        k = table::wide(next[k]);
+        if certificate.appointee == user {
+            own[KINDS + table::wide(certificate.kind)] = true;
+        }
+    }
+}
+
+// Row k is judged by its user's marks, and marked if it stays.
+fn judge_row(rules: &[u16], kinds: &[u16], state: &[u16], own: &mut [bool], k: usize) -> u8
+    requires { ⌜ InRange (now state) × (k < rowCount (now state)) × Own (rowAt (now state) k .user) (now own) (kept (worldAt (now rules) (now kinds) (now state)) (now state) k) (decode (now state) .certificates) ⌝ }
+    ensures said { λ r. ⌜ r ≡ verdictAt (worldAt (now (rules .entry)) (now (kinds .entry)) (now (state .entry))) (now (state .entry)) k ⌝ }
+    ensures entered { λ r. ⌜ Own (rowAt (now (state .entry)) k .user) (now (own .exit)) (kept (worldAt (now (rules .entry)) (now (kinds .entry)) (now (state .entry))) (now (state .entry)) (k + 1)) (decode (now (state .entry)) .certificates) ⌝ }
+{
+    let row = table::row_at(state, k);
+    if !index::row_supported(rules, kinds, state, own, row) {
+        return FALLS;
+    }
+    let role = table::wide(row.role);
+    if own[role] {
+        return TWICE;
+    }
+    own[role] = true;
+    STAYS
+}
+
+// Of row i's user all rows are judged, from row i on.
+fn judge_user(
+    rules: &[u16],
+    kinds: &[u16],
+    state: &[u16],
+    next: &[u16],
+    own: &mut [bool],
+    i: usize,
+    verdicts: &mut [u8],
+)
+    requires { ⌜ InRange (now state) × (i < rowCount (now state)) × GoesOn (now state) rowsAt (rowCount (now state)) 0 (now next) × Own (rowAt (now state) i .user) (now own) (kept (worldAt (now rules) (now kinds) (now state)) (now state) i) (decode (now state) .certificates) × Right (worldAt (now rules) (now kinds) (now state)) (now state) (now verdicts) ⌝ }
+    ensures { λ r. ⌜ UserJudged (worldAt (now (rules .entry)) (now (kinds .entry)) (now (state .entry))) (now (state .entry)) i (now (verdicts .entry)) (now (verdicts .exit)) ⌝ }
+{
+    let n = table::wide(state[ROW_COUNT]);
+    let first = table::row_at(state, i);
+    let user = first.user;
+    let mut k = i;
+    while k < n {
+        let row = table::row_at(state, k);
+        if row.user == user {
+            verdicts[k] = judge_row(rules, kinds, state, own, k);
+        }
+        k = table::wide(next[k]);
+    }
+}
+
+// The same for row i, before which its user has none, by marks of its own.
+fn judge_own(
+    rules: &[u16],
+    kinds: &[u16],
+    state: &[u16],
+    next: &[u16],
+    heads: &[u16],
+    after: &[u16],
+    i: usize,
+    verdicts: &mut [u8],
+)
+    requires { ⌜ InRange (now state) × (i < rowCount (now state)) × GoesOn (now state) rowsAt (rowCount (now state)) 0 (now next) × Begins (now state) certificatesAt (certificateCount (now state)) 0 (now heads) × GoesOn (now state) certificatesAt (certificateCount (now state)) 0 (now after) × ((h : ℕ) → h < i → rowAt (now state) h .user ≢ rowAt (now state) i .user) × Right (worldAt (now rules) (now kinds) (now state)) (now state) (now verdicts) ⌝ }
+    ensures { λ r. ⌜ UserJudged (worldAt (now (rules .entry)) (now (kinds .entry)) (now (state .entry))) (now (state .entry)) i (now (verdicts .entry)) (now (verdicts .exit)) ⌝ }
+{
+    let row = table::row_at(state, i);
+    let mut own = [false; 384];
+    enter_kinds(state, heads, after, row.user, &mut own);
+    judge_user(rules, kinds, state, next, &mut own, i, verdicts);
+}
+
+fn judge_each(
+    rules: &[u16],
+    kinds: &[u16],
+    state: &[u16],
+    next: &[u16],
+    heads: &[u16],
+    after: &[u16],
+    verdicts: &mut [u8],
+)
+    requires { ⌜ InRange (now state) × GoesOn (now state) rowsAt (rowCount (now state)) 0 (now next) × Begins (now state) certificatesAt (certificateCount (now state)) 0 (now heads) × GoesOn (now state) certificatesAt (certificateCount (now state)) 0 (now after) × (now verdicts ≡ replicate 256 0) ⌝ }
+    ensures { λ r. ⌜ Judged (worldAt (now (rules .entry)) (now (kinds .entry)) (now (state .entry))) (now (state .entry)) (now (verdicts .exit)) ⌝ }
+{
+    let n = table::wide(state[ROW_COUNT]);
+    let mut i: usize = 0;
+    while i < n {
+        if verdicts[i] == 0 {
+            judge_own(rules, kinds, state, next, heads, after, i, verdicts);
+        }
+        i += 1;
+    }
+}
+
+// Says of each row whether it stays: `verdicts` is zero before.
+pub fn judge_rows(rules: &[u16], kinds: &[u16], state: &[u16], verdicts: &mut [u8])
+    requires { ⌜ InRange (now state) × (now verdicts ≡ replicate 256 0) ⌝ }
+    ensures { λ r. ⌜ Judged (worldAt (now (rules .entry)) (now (kinds .entry)) (now (state .entry))) (now (state .entry)) (now (verdicts .exit)) ⌝ }
+{
+    let mut first = [256u16; 512];
+    let mut next = [256u16; 256];
+    let n = table::wide(state[ROW_COUNT]);
+    chains::chain(state, ROWS, n, &mut first, &mut next);
+    let mut heads = [256u16; 512];
+    let mut after = [256u16; 256];
+    let m = table::wide(state[CERTIFICATE_COUNT]);
+    chains::chain(state, CERTIFICATES, m, &mut heads, &mut after);
+    judge_each(rules, kinds, state, &next, &heads, &after, verdicts);
+}
