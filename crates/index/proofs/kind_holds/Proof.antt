@@ -16,19 +16,17 @@ use Rattle.index.proofs.kind_holds.Tie as tie
 wide-requires : tie.Need-wide-requires
 wide-requires c κs = search needs
 
-add-is-marked : tie.Need-add-is-marked
-add-is-marked c = search needs
+-- src/lib.rt:59:13
+add-if1 : tie.Need-add-if1
+add-if1 c = search needs
 
-add-is-marked-2 : tie.Need-add-is-marked-2
-add-is-marked-2 c = search needs
+-- src/lib.rt:59:9
+shared-slice-read-if1 : tie.Need-shared-slice-read-if1
+shared-slice-read-if1 c = search needs
 
-is-marked-requires : tie.Need-is-marked-requires
-is-marked-requires c κs = search needs
-
+-- was: returns c = ap (λ (b : Bool). b && all (roleMarked (block ($args .words .now) ($args .base))) (prerequisiteRoles (kindNumbered (policyOf (withoutRights [] ($args .kinds .now))) ($args .kind)))) (sym (not-true _ ($if1 .taken)) ∙ $is-marked .ensures ∙ ap (λ (n : ℕ). block ($args .words .now) ($args .base) (256 + n)) ($wide .ensures))
 returns : tie.Need-returns
-returns c =
-    ap (λ (b : Bool). b && all (roleMarked (block (c .before .before .before .before .before .args .words .now) (c .before .before .before .before .before .args .base))) (prerequisiteRoles (kindNumbered (policyOf (withoutRights [] (c .before .before .before .before .before .args .kinds .now))) (c .before .before .before .before .before .args .kind))))
-    (sym (not-true _ (c .if1 .taken)) ∙ c .before .is-marked .ensures ∙ ap (λ (n : ℕ). block (c .before .before .before .before .before .args .words .now) (c .before .before .before .before .before .args .base) (256 + n)) (c .before .before .wide .ensures))
+returns c = ?
 
 wide-requires-2 : tie.Need-wide-requires-2
 wide-requires-2 c κs = search needs
@@ -45,23 +43,17 @@ least-requires c κs = search needs
 all-marked-requires : tie.Need-all-marked-requires
 all-marked-requires c κs = search needs
 
+-- was: returns-2 c = prerequisites-marked (block ($args .words .now) ($args .base)) (policyOf (withoutRights [] ($args .kinds .now))) ($args .kind) ($least .result) ($kind-numbered .result) (block ($args .words .now) ($args .base) (256 + $args .kind)) ($all-marked .result) (ap (λ (n : ℕ). block ($args .words .now) ($args .base) (256 + n)) (sym ($wide .ensures)) ∙ sym ($is-marked .ensures) ∙ not-false _ ($if1 .left)) ($kind-numbered .ensures ∙ ap (λ (n : ℕ). kindNumbered (policyOf (withoutRights [] ($args .kinds .now))) n) ($wide2 .ensures)) (search needs) ($least .ensures ∙ ap (λ (n : ℕ). min n 4) ($wide3 .ensures)) ($all-marked .ensures)
 returns-2 : tie.Need-returns-2
-returns-2 c =
-    prerequisites-marked (block (c .before .before .before .before .before .before .before .before .before .before .before .args .words .now) (c .before .before .before .before .before .before .before .before .before .before .before .args .base)) (policyOf (withoutRights [] (c .before .before .before .before .before .before .before .before .before .before .before .args .kinds .now))) (c .before .before .before .before .before .before .before .before .before .before .before .args .kind) (c .before .least .result) (c .before .before .before .before .kind-numbered .result) (block (c .before .before .before .before .before .before .before .before .before .before .before .args .words .now) (c .before .before .before .before .before .before .before .before .before .before .before .args .base) (256 + c .before .before .before .before .before .before .before .before .before .before .before .args .kind)) (c .all-marked .result)
-    (ap (λ (n : ℕ). block (c .before .before .before .before .before .before .before .before .before .before .before .args .words .now) (c .before .before .before .before .before .before .before .before .before .before .before .args .base) (256 + n)) (sym (c .before .before .before .before .before .before .before .before .wide .ensures)) ∙ sym (c .before .before .before .before .before .before .before .is-marked .ensures) ∙ not-false _ (c .before .before .before .before .before .before .if1 .left))
-    (c .before .before .before .before .kind-numbered .ensures ∙ ap (λ (n : ℕ). kindNumbered (policyOf (withoutRights [] (c .before .before .before .before .before .before .before .before .before .before .before .args .kinds .now))) n) (c .before .before .before .before .before .wide2 .ensures))
-    (search needs)
-    (c .before .least .ensures ∙ ap (λ (n : ℕ). min n 4) (c .before .before .wide3 .ensures))
-    (c .all-marked .ensures)
+returns-2 c = ?
 
 pub kind-holds-spec : {M : Type 1} → statement M
 kind-holds-spec =
     tie.close
     (tie.spec
     wide-requires
-    add-is-marked
-    add-is-marked-2
-    is-marked-requires
+    add-if1
+    shared-slice-read-if1
     returns
     wide-requires-2
     kind-numbered-requires

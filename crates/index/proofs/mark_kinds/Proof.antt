@@ -38,21 +38,20 @@ add-j c = search needs
 wide-requires-2 : tie.Need-wide-requires-2 Inv-loop μ-loop
 wide-requires-2 c κs = search needs
 
-add-mark : tie.Need-add-mark Inv-loop μ-loop
-add-mark c = omega (arith, c .wide2 .ensures, ap (λ (x : Certificate). x .kind) (c .before .before .before .before .certificate-at .ensures), certificate-in-range (c .before .before .before .before .before .before .before .before .before .before .before .args .state .now) (c .before .before .before .before .before .before .before .before .before .before .before .pre .0) (c .before .before .before .before .before .before .loop .j) (omega (arith, c .before .before .before .before .before .before .before .wide .ensures)) .1)
+-- src/lib.rt:172:17
+add-own : tie.Need-add-own Inv-loop μ-loop
+add-own c = search needs
 
-mark-requires : tie.Need-mark-requires Inv-loop μ-loop
-mark-requires c κs = omega (arith, c .before .before .before .before .before .before .loop .inv .2 .room .inside, c .wide2 .ensures, ap (λ (x : Certificate). x .kind) (c .before .before .before .before .certificate-at .ensures), certificate-in-range (c .before .before .before .before .before .before .before .before .before .before .before .args .state .now) (c .before .before .before .before .before .before .before .before .before .before .before .pre .0) (c .before .before .before .before .before .before .loop .j) (omega (arith, c .before .before .before .before .before .before .before .wide .ensures)) .1)
+-- src/lib.rt:172:13
+slice-write-own : tie.Need-slice-write-own Inv-loop μ-loop
+slice-write-own c = search needs
 
 loop-less : tie.Need-loop-less Inv-loop μ-loop
-loop-less c = omega (arith, c .before .before .before .before .before .before .before .before .before .before .wide .ensures)
+loop-less c = omega (arith, c .before .before .before .before .before .before .wide .ensures)
 
+-- was: loop-again c = ( omega (arith, $wide .ensures), $mark .ensures .size ∙ $loop .inv .1, kinds-on ($args .state .now) ($loop .own) ($args .user) ($loop .j) (decode ($args .state .now) .rows) ($certificate-at .result) ($certificate-at .ensures) ($loop .inv .2) _ ($wide2 .result) ($if1 .taken) ($wide2 .ensures) ($mark .ensures), )
 loop-again : tie.Need-loop-again Inv-loop μ-loop
-loop-again c = (
-  omega (arith, c .before .before .before .before .before .before .before .before .before .before .wide .ensures),
-  c .before .before .mark .ensures .size ∙ c .before .before .before .before .before .before .before .before .before .loop .inv .1,
-  kinds-on (c .before .before .before .before .before .before .before .before .before .before .before .before .before .before .args .state .now) (c .before .before .before .before .before .before .before .before .before .loop .words) (c .before .before .before .before .before .before .before .before .before .before .before .before .before .before .args .user) (c .before .before .before .before .before .before .before .before .before .loop .j) (decode (c .before .before .before .before .before .before .before .before .before .before .before .before .before .before .args .state .now) .rows) (c .before .before .before .before .before .before .before .certificate-at .result) (c .before .before .before .before .before .before .before .certificate-at .ensures) (c .before .before .before .before .before .before .before .before .before .loop .inv .2) _ (c .before .before .before .wide2 .result) (c .before .before .before .before .before .if1 .taken) (c .before .before .before .wide2 .ensures) (c .before .before .mark .ensures),
-)
+loop-again c = ?
 
 loop-less-2 : tie.Need-loop-less-2 Inv-loop μ-loop
 loop-less-2 c = omega (arith, c .before .before .before .before .before .wide .ensures)
@@ -61,7 +60,7 @@ loop-again-2 : tie.Need-loop-again-2 Inv-loop μ-loop
 loop-again-2 c = (
   omega (arith, c .before .before .before .before .before .wide .ensures),
   c .before .before .before .before .loop .inv .1,
-  kinds-past (c .before .before .before .before .before .before .before .before .before .args .state .now) (c .before .before .before .before .loop .words) (c .before .before .before .before .before .before .before .before .before .args .user) (c .before .before .before .before .loop .j) (decode (c .before .before .before .before .before .before .before .before .before .args .state .now) .rows) (c .before .before .certificate-at .result) (c .before .before .certificate-at .ensures) (c .before .before .before .before .loop .inv .2) (c .if1 .left),
+  kinds-past (c .before .before .before .before .before .before .before .before .before .args .state .now) (c .before .before .before .before .loop .own) (c .before .before .before .before .before .before .before .before .before .args .user) (c .before .before .before .before .loop .j) (decode (c .before .before .before .before .before .before .before .before .before .args .state .now) .rows) (c .before .before .certificate-at .result) (c .before .before .certificate-at .ensures) (c .before .before .before .before .loop .inv .2) (c .if1 .left),
 )
 
 same-length : tie.Need-same-length Inv-loop μ-loop
@@ -69,7 +68,7 @@ same-length c = c .before .loop .inv .1
 
 returns : tie.Need-returns Inv-loop μ-loop
 unfolding decode firstCertificates
-returns c = let e : c .before .loop .j ≡ certificateCount (c .before .before .before .before .before .before .args .state .now) = omega (arith, c .before .before .wide .ensures) in subst (λ (n : ℕ). Own (c .before .before .before .before .before .before .args .user) (c .before .loop .words) (decode (c .before .before .before .before .before .before .args .state .now) .rows) (firstCertificates (c .before .before .before .before .before .before .args .state .now) n)) e (c .before .loop .inv .2)
+returns c = let e : c .before .loop .j ≡ certificateCount (c .before .before .before .before .before .before .args .state .now) = omega (arith, c .before .before .wide .ensures) in subst (λ (n : ℕ). Own (c .before .before .before .before .before .before .args .user) (c .before .loop .own) (decode (c .before .before .before .before .before .before .args .state .now) .rows) (firstCertificates (c .before .before .before .before .before .before .args .state .now) n)) e (c .before .loop .inv .2)
 
 pub mark-kinds-spec : {M : Type 1} → statement M
 mark-kinds-spec =
@@ -83,8 +82,8 @@ mark-kinds-spec =
     certificate-at-requires
     add-j
     wide-requires-2
-    add-mark
-    mark-requires
+    add-own
+    slice-write-own
     loop-less
     loop-again
     loop-less-2

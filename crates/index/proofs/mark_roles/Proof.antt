@@ -39,18 +39,16 @@ add-i c = search needs
 wide-requires-2 : tie.Need-wide-requires-2 Inv-loop μ-loop
 wide-requires-2 c κs = search needs
 
-mark-requires : tie.Need-mark-requires Inv-loop μ-loop
-mark-requires c κs = omega (arith, c .before .before .before .before .before .before .loop .inv .2 .room .inside, c .wide2 .ensures, ap (λ (x : Row). x .role) (c .before .before .before .before .row-at .ensures), row-in-range (c .before .before .before .before .before .before .before .before .before .before .before .args .state .now) (c .before .before .before .before .before .before .before .before .before .before .before .pre .0) (c .before .before .before .before .before .before .loop .i) (omega (arith, c .before .before .before .before .before .before .before .wide .ensures)) .1)
+-- src/lib.rt:156:13
+slice-write-own : tie.Need-slice-write-own Inv-loop μ-loop
+slice-write-own c = search needs
 
 loop-less : tie.Need-loop-less Inv-loop μ-loop
-loop-less c = omega (arith, c .before .before .before .before .before .before .before .before .before .before .wide .ensures)
+loop-less c = omega (arith, c .before .before .before .before .before .before .wide .ensures)
 
+-- was: loop-again c = ( omega (arith, $wide .ensures), $mark .ensures .size ∙ $loop .inv .1, roles-on ($args .state .now) ($loop .own) ($args .user) ($loop .i) [] ($row-at .result) ($row-at .ensures) ($loop .inv .2) _ ($wide2 .result) ($pre .0) (omega (arith, $wide .ensures)) ($if1 .taken) ($wide2 .ensures) ($mark .ensures), )
 loop-again : tie.Need-loop-again Inv-loop μ-loop
-loop-again c = (
-  omega (arith, c .before .before .before .before .before .before .before .before .before .before .wide .ensures),
-  c .before .before .mark .ensures .size ∙ c .before .before .before .before .before .before .before .before .before .loop .inv .1,
-  roles-on (c .before .before .before .before .before .before .before .before .before .before .before .before .before .before .args .state .now) (c .before .before .before .before .before .before .before .before .before .loop .words) (c .before .before .before .before .before .before .before .before .before .before .before .before .before .before .args .user) (c .before .before .before .before .before .before .before .before .before .loop .i) [] (c .before .before .before .before .before .before .before .row-at .result) (c .before .before .before .before .before .before .before .row-at .ensures) (c .before .before .before .before .before .before .before .before .before .loop .inv .2) _ (c .before .before .before .wide2 .result) (c .before .before .before .before .before .before .before .before .before .before .before .before .before .before .pre .0) (omega (arith, c .before .before .before .before .before .before .before .before .before .before .wide .ensures)) (c .before .before .before .before .before .if1 .taken) (c .before .before .before .wide2 .ensures) (c .before .before .mark .ensures),
-)
+loop-again c = ?
 
 loop-less-2 : tie.Need-loop-less-2 Inv-loop μ-loop
 loop-less-2 c = omega (arith, c .before .before .before .before .before .wide .ensures)
@@ -59,7 +57,7 @@ loop-again-2 : tie.Need-loop-again-2 Inv-loop μ-loop
 loop-again-2 c = (
   omega (arith, c .before .before .before .before .before .wide .ensures),
   c .before .before .before .before .loop .inv .1,
-  roles-past (c .before .before .before .before .before .before .before .before .before .args .state .now) (c .before .before .before .before .loop .words) (c .before .before .before .before .before .before .before .before .before .args .user) (c .before .before .before .before .loop .i) [] (c .before .before .row-at .result) (c .before .before .row-at .ensures) (c .before .before .before .before .loop .inv .2) (c .if1 .left),
+  roles-past (c .before .before .before .before .before .before .before .before .before .args .state .now) (c .before .before .before .before .loop .own) (c .before .before .before .before .before .before .before .before .before .args .user) (c .before .before .before .before .loop .i) [] (c .before .before .row-at .result) (c .before .before .row-at .ensures) (c .before .before .before .before .loop .inv .2) (c .if1 .left),
 )
 
 same-length : tie.Need-same-length Inv-loop μ-loop
@@ -67,7 +65,7 @@ same-length c = c .before .loop .inv .1
 
 returns : tie.Need-returns Inv-loop μ-loop
 unfolding decode firstRows
-returns c = let e : c .before .loop .i ≡ rowCount (c .before .before .before .before .before .before .args .state .now) = omega (arith, c .before .before .wide .ensures) in subst (λ (n : ℕ). Own (c .before .before .before .before .before .before .args .user) (c .before .loop .words) (firstRows (c .before .before .before .before .before .before .args .state .now) n) []) e (c .before .loop .inv .2)
+returns c = let e : c .before .loop .i ≡ rowCount (c .before .before .before .before .before .before .args .state .now) = omega (arith, c .before .before .wide .ensures) in subst (λ (n : ℕ). Own (c .before .before .before .before .before .before .args .user) (c .before .loop .own) (firstRows (c .before .before .before .before .before .before .args .state .now) n) []) e (c .before .loop .inv .2)
 
 pub mark-roles-spec : {M : Type 1} → statement M
 mark-roles-spec =
@@ -81,7 +79,7 @@ mark-roles-spec =
     row-at-requires
     add-i
     wide-requires-2
-    mark-requires
+    slice-write-own
     loop-less
     loop-again
     loop-less-2
