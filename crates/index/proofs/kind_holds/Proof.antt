@@ -7,7 +7,7 @@ use Rattle.model.specs.Lists.{all}
 use Rattle.model.specs.Layout.{policyOf}
 use Rattle.model.specs.Conditions.{kindNumbered, prerequisiteRoles}
 use Rattle.table.specs.Entries.{withoutRights}
-use Rattle.index.specs.Marked.{block, roleMarked}
+use Rattle.index.specs.Marked.{has, roleMarked}
 use Rattle.index.proofs.Holding.{prerequisites-marked}
 use borrow.Author.Needs.{needs}
 use Rattle.index.proofs.kind_holds.Statement.{statement}
@@ -16,17 +16,14 @@ use Rattle.index.proofs.kind_holds.Tie as tie
 wide-requires : tie.Need-wide-requires
 wide-requires c κs = search needs
 
--- src/lib.rt:59:13
 add-if1 : tie.Need-add-if1
 add-if1 c = search needs
 
--- src/lib.rt:59:9
 shared-slice-read-if1 : tie.Need-shared-slice-read-if1
 shared-slice-read-if1 c = search needs
 
--- was: returns c = ap (λ (b : Bool). b && all (roleMarked (block ($args .words .now) ($args .base))) (prerequisiteRoles (kindNumbered (policyOf (withoutRights [] ($args .kinds .now))) ($args .kind)))) (sym (not-true _ ($if1 .taken)) ∙ $is-marked .ensures ∙ ap (λ (n : ℕ). block ($args .words .now) ($args .base) (256 + n)) ($wide .ensures))
 returns : tie.Need-returns
-returns c = ?
+returns c = ap (λ (b : Bool). b && all (roleMarked (has (c .before .before .before .before .before .args .own .now))) (prerequisiteRoles (kindNumbered (policyOf (withoutRights [] (c .before .before .before .before .before .args .kinds .now))) (c .before .before .before .before .before .args .kind)))) (sym (not-true _ (c .if1 .taken)) ∙ ap (λ (n : ℕ). has (c .before .before .before .before .before .args .own .now) (256 + n)) (c .before .before .wide .ensures))
 
 wide-requires-2 : tie.Need-wide-requires-2
 wide-requires-2 c κs = search needs
@@ -43,9 +40,8 @@ least-requires c κs = search needs
 all-marked-requires : tie.Need-all-marked-requires
 all-marked-requires c κs = search needs
 
--- was: returns-2 c = prerequisites-marked (block ($args .words .now) ($args .base)) (policyOf (withoutRights [] ($args .kinds .now))) ($args .kind) ($least .result) ($kind-numbered .result) (block ($args .words .now) ($args .base) (256 + $args .kind)) ($all-marked .result) (ap (λ (n : ℕ). block ($args .words .now) ($args .base) (256 + n)) (sym ($wide .ensures)) ∙ sym ($is-marked .ensures) ∙ not-false _ ($if1 .left)) ($kind-numbered .ensures ∙ ap (λ (n : ℕ). kindNumbered (policyOf (withoutRights [] ($args .kinds .now))) n) ($wide2 .ensures)) (search needs) ($least .ensures ∙ ap (λ (n : ℕ). min n 4) ($wide3 .ensures)) ($all-marked .ensures)
 returns-2 : tie.Need-returns-2
-returns-2 c = ?
+returns-2 c = prerequisites-marked (has (c .before .before .before .before .before .before .before .before .before .before .before .args .own .now)) (policyOf (withoutRights [] (c .before .before .before .before .before .before .before .before .before .before .before .args .kinds .now))) (c .before .before .before .before .before .before .before .before .before .before .before .args .kind) (c .before .least .result) (c .before .before .before .before .kind-numbered .result) (has (c .before .before .before .before .before .before .before .before .before .before .before .args .own .now) (256 + c .before .before .before .before .before .before .before .before .before .before .before .args .kind)) (c .all-marked .result) (ap (λ (n : ℕ). has (c .before .before .before .before .before .before .before .before .before .before .before .args .own .now) (256 + n)) (sym (c .before .before .before .before .before .before .before .before .wide .ensures)) ∙ not-false _ (c .before .before .before .before .before .before .if1 .left)) (c .before .before .before .before .kind-numbered .ensures ∙ ap (λ (n : ℕ). kindNumbered (policyOf (withoutRights [] (c .before .before .before .before .before .before .before .before .before .before .before .args .kinds .now))) n) (c .before .before .before .before .before .wide2 .ensures)) (search needs) (c .before .least .ensures ∙ ap (λ (n : ℕ). min n 4) (c .before .before .wide3 .ensures)) (c .all-marked .ensures)
 
 pub kind-holds-spec : {M : Type 1} → statement M
 kind-holds-spec =

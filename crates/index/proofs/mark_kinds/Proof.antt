@@ -1,23 +1,24 @@
 -- The invariant: the kinds of the certificates passed that stand for the user are marked.
-use Prim.Native.Nat.{ℕ, _≤_, _-_}
+use Prim.Native.Nat.{ℕ, _+_, _≤_, _-_}
 use mathlib.Core.Path.{_≡_, refl, ap, _∙_, subst}
 use native.Mathlib.Omega.{arith}
-use lib.ListN.{length}
+use mathlib.Core.Bool.{Bool, true}
+use lib.ListN.{length, length-set}
 use Rattle.model.specs.Layout.{decode, certificateCount}
 use Rattle.model.specs.declared.Certificate.{Certificate}
 use Rattle.table.specs.Entries.{firstCertificates}
-use Rattle.index.specs.Indexed.{Own}
-use Rattle.index.proofs.Indexing.{certificate-in-range}
+use Rattle.index.specs.Owned.{Own}
+use Rattle.index.proofs.Owning.{certificate-in-range}
 use Rattle.index.proofs.Owning.{kinds-on, kinds-past}
 use borrow.Author.Needs.{needs}
 use Rattle.index.proofs.mark_kinds.Statement.{statement}
 use Rattle.index.proofs.mark_kinds.Tie as tie
 
 abbrev Inv-loop : tie.InvT-loop
-Inv-loop state user words₀ n j₀ words j = (j ≤ certificateCount state) × (length words ≡ length words₀) × Own user words (decode state .rows) (firstCertificates state j)
+Inv-loop state user own₀ n j₀ own j = (j ≤ certificateCount state) × (length own ≡ length own₀) × Own user own (decode state .rows) (firstCertificates state j)
 
 abbrev μ-loop : tie.MeasureT-loop
-μ-loop state user words₀ n j₀ words j = certificateCount state - j
+μ-loop state user own₀ n j₀ own j = certificateCount state - j
 
 shared-slice-read-wide : tie.Need-shared-slice-read-wide Inv-loop μ-loop
 shared-slice-read-wide c = omega (arith, c .before .before .before .pre .0 .sized .size)
@@ -38,20 +39,21 @@ add-j c = search needs
 wide-requires-2 : tie.Need-wide-requires-2 Inv-loop μ-loop
 wide-requires-2 c κs = search needs
 
--- src/lib.rt:172:17
 add-own : tie.Need-add-own Inv-loop μ-loop
-add-own c = search needs
+add-own c = omega (arith, c .before .before .before .before .before .loop .inv .2 .size, c .wide2 .ensures, ap (λ (x : Certificate). x .kind) (c .before .before .before .certificate-at .ensures), certificate-in-range (c .before .before .before .before .before .before .before .before .before .before .args .state .now) (c .before .before .before .before .before .before .before .before .before .before .pre .0) (c .before .before .before .before .before .loop .j) (omega (arith, c .before .before .before .before .before .before .wide .ensures)) .1)
 
--- src/lib.rt:172:13
 slice-write-own : tie.Need-slice-write-own Inv-loop μ-loop
-slice-write-own c = search needs
+slice-write-own c = omega (arith, c .before .before .before .before .before .loop .inv .2 .size, c .wide2 .ensures, ap (λ (x : Certificate). x .kind) (c .before .before .before .certificate-at .ensures), certificate-in-range (c .before .before .before .before .before .before .before .before .before .before .args .state .now) (c .before .before .before .before .before .before .before .before .before .before .pre .0) (c .before .before .before .before .before .loop .j) (omega (arith, c .before .before .before .before .before .before .wide .ensures)) .1)
 
 loop-less : tie.Need-loop-less Inv-loop μ-loop
 loop-less c = omega (arith, c .before .before .before .before .before .before .wide .ensures)
 
--- was: loop-again c = ( omega (arith, $wide .ensures), $mark .ensures .size ∙ $loop .inv .1, kinds-on ($args .state .now) ($loop .own) ($args .user) ($loop .j) (decode ($args .state .now) .rows) ($certificate-at .result) ($certificate-at .ensures) ($loop .inv .2) _ ($wide2 .result) ($if1 .taken) ($wide2 .ensures) ($mark .ensures), )
 loop-again : tie.Need-loop-again Inv-loop μ-loop
-loop-again c = ?
+loop-again c = (
+  omega (arith, c .before .before .before .before .before .before .wide .ensures),
+  length-set (c .before .before .before .before .before .loop .own) (256 + c .wide2 .result) true ∙ c .before .before .before .before .before .loop .inv .1,
+  kinds-on (c .before .before .before .before .before .before .before .before .before .before .args .state .now) (c .before .before .before .before .before .loop .own) (c .before .before .before .before .before .before .before .before .before .before .args .user) (c .before .before .before .before .before .loop .j) (decode (c .before .before .before .before .before .before .before .before .before .before .args .state .now) .rows) (c .before .before .before .certificate-at .result) (c .before .before .before .certificate-at .ensures) (c .before .before .before .before .before .loop .inv .2) (c .wide2 .result) (c .before .before .before .before .before .before .before .before .before .before .pre .0) (omega (arith, c .before .before .before .before .before .before .wide .ensures)) (c .before .if1 .taken) (c .wide2 .ensures),
+)
 
 loop-less-2 : tie.Need-loop-less-2 Inv-loop μ-loop
 loop-less-2 c = omega (arith, c .before .before .before .before .before .wide .ensures)
