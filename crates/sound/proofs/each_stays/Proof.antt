@@ -3,7 +3,7 @@ use Prim.Native.Nat.{ℕ, _≤_, _-_}
 use mathlib.Core.Path.{_≡_, refl, sym, ap, _∙_}
 use mathlib.Core.Bool.{true}
 use native.Mathlib.Omega.{arith}
-use lib.ListN.{take}
+use lib.ListN.{take, getD}
 use borrow.Author.Tests.{eq-eqb, ne-eqb}
 use Rattle.model.specs.Lists.{all}
 use Rattle.table.proofs.Entries.{all-next, all-miss}
@@ -25,7 +25,7 @@ shared-slice-read-if1 : tie.Need-shared-slice-read-if1 Inv-loop μ-loop
 shared-slice-read-if1 c = search needs
 
 returns : tie.Need-returns Inv-loop μ-loop
-returns c = sym (all-miss isOne (c .before .before .before .before .args .verdicts .now) 0 (c .before .before .before .before .args .n) (c .before .before .before .loop .i) (c .before .before .loop-test .taken) (omega arith) (ne-eqb _ _ (c .if1 .taken)))
+returns c = sym (all-miss isOne (c .before .before .before .before .args .verdicts .now) 0 (c .before .before .before .before .args .n) (c .before .before .before .loop .i) (c .before .before .loop-test .taken) (omega arith) (ne-eqb (getD (c .before .before .before .before .args .verdicts .now) (c .before .before .before .loop .i) 0) 1 (λ e. omega arith)))
 
 add-i : tie.Need-add-i Inv-loop μ-loop
 add-i c = search needs
@@ -34,7 +34,7 @@ loop-less : tie.Need-loop-less Inv-loop μ-loop
 loop-less c = search needs
 
 loop-again : tie.Need-loop-again Inv-loop μ-loop
-loop-again c = (search needs, all-next isOne (c .before .before .before .before .args .verdicts .now) 0 (c .before .before .before .loop .i) (omega arith) (c .before .before .before .loop .inv .1) (eq-eqb _ _ (c .if1 .left)))
+loop-again c = (search needs, all-next isOne (c .before .before .before .before .args .verdicts .now) 0 (c .before .before .before .loop .i) (omega arith) (c .before .before .before .loop .inv .1) (eq-eqb (getD (c .before .before .before .before .args .verdicts .now) (c .before .before .before .loop .i) 0) 1 (omega arith)))
 
 returns-2 : tie.Need-returns-2 Inv-loop μ-loop
 returns-2 c =
