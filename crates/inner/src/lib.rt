@@ -16,6 +16,8 @@ use model::Answer;
 use model::CERTIFICATE_COUNT;
 use model::Certificate;
 use model::KIND_WIDTH;
+use model::MOST_CERTIFICATES;
+use model::MOST_ROWS;
 use model::ROLES;
 use model::ROW_COUNT;
 use model::RULE_WIDTH;
@@ -103,7 +105,7 @@ pub fn activate(
         return refused(5);
     }
     let k = table::wide(state[ROW_COUNT]);
-    if 256 <= k {
+    if MOST_ROWS <= k {
         return refused(6);
     }
     let rule = i as u16;
@@ -149,7 +151,7 @@ pub fn appoint(
     if find_certificate(state, certificate) < n {
         return refused(8);
     }
-    if 256 <= n {
+    if MOST_CERTIFICATES <= n {
         return refused(6);
     }
     change::append_certificate(state, certificate);
