@@ -34,7 +34,7 @@ calls l =
     let d = number (l .numbers) 3 in
     activate a b ∷ appoint a b c ∷ revoke a b c d ∷ withdraw a b c ∷ environment a b ∷ logout a ∷ invoke a b ∷ effective a b c ∷ []
 
-pub call-is : (l : Line) (w : ℕ) → l .word ≡ w → getD (calls l) (w - 3) fresh ≡ lineCall l
+call-is : (l : Line) (w : ℕ) → l .word ≡ w → getD (calls l) (w - 3) fresh ≡ lineCall l
 unfolding lineCall
 call-is l w e = ap (λ (n : ℕ). getD (calls l) (n - 3) fresh) (sym e)
 
