@@ -62,85 +62,12 @@ fn condition_fits(kinds: &[u16], c: u16) -> bool
     c / FACTS == 6
 }
 
-// Entry n * 8 + j is 1 if place j is one of the first n. What stands in a table needs no branch, so that the machine may judge eight
-// places in one step.
-fn counting() -> [u16; 72]
+// Eight places that count, and eight that do not: entry 8 - n + j is 1 if place j is one of the first n. What stands in a table needs no
+// branch, so that the machine may judge eight places in one step.
+fn counting() -> [u16; 16]
     ensures { λ r. ⌜ Counting r ⌝ }
 {
-    [
-        0,
-        0,
-        0,
-        0,
-        0,
-        0,
-        0,
-        0,
-        1,
-        0,
-        0,
-        0,
-        0,
-        0,
-        0,
-        0,
-        1,
-        1,
-        0,
-        0,
-        0,
-        0,
-        0,
-        0,
-        1,
-        1,
-        1,
-        0,
-        0,
-        0,
-        0,
-        0,
-        1,
-        1,
-        1,
-        1,
-        0,
-        0,
-        0,
-        0,
-        1,
-        1,
-        1,
-        1,
-        1,
-        0,
-        0,
-        0,
-        1,
-        1,
-        1,
-        1,
-        1,
-        1,
-        0,
-        0,
-        1,
-        1,
-        1,
-        1,
-        1,
-        1,
-        1,
-        0,
-        1,
-        1,
-        1,
-        1,
-        1,
-        1,
-        1,
-        1,
-    ]
+    [1, 1, 1, 1, 1, 1, 1, 1, 0, 0, 0, 0, 0, 0, 0, 0]
 }
 
 // 0 if nothing is wrong with the number: one that counts fits, and one past those is 0.
@@ -166,7 +93,7 @@ fn conditions_fit(kinds: &[u16], counting: &[u16], conditions: [u16; 8], n: usiz
     let mut j: usize = 0;
     while j < 8 {
         let c = conditions[j];
-        over = over | wrong(c, condition_fits(kinds, c), counting[n * 8 + j] == 1);
+        over = over | wrong(c, condition_fits(kinds, c), counting[8 - n + j] == 1);
         j += 1;
     }
     over == 0
@@ -219,7 +146,7 @@ fn roles_fit(counting: &[u16], prerequisites: [u16; 4], n: usize) -> bool
     let mut j: usize = 0;
     while j < 4 {
         let q = prerequisites[j];
-        over = over | wrong(q, q < ROLES, counting[n * 8 + j] == 1);
+        over = over | wrong(q, q < ROLES, counting[8 - n + j] == 1);
         j += 1;
     }
     over == 0
@@ -268,38 +195,38 @@ fn limits() -> [u16; 32]
     ensures { λ r. ⌜ Limits r ⌝ }
 {
     [
-        256,
-        1024,
-        256,
-        1024,
-        256,
-        1024,
-        256,
-        1024,
-        256,
-        1024,
-        256,
-        1024,
-        256,
-        1024,
-        256,
-        1024,
-        256,
-        1024,
-        256,
-        1024,
-        256,
-        1024,
-        256,
-        1024,
-        256,
-        1024,
-        256,
-        1024,
-        256,
-        1024,
-        256,
-        1024,
+        ROLES,
+        PRIVILEGES,
+        ROLES,
+        PRIVILEGES,
+        ROLES,
+        PRIVILEGES,
+        ROLES,
+        PRIVILEGES,
+        ROLES,
+        PRIVILEGES,
+        ROLES,
+        PRIVILEGES,
+        ROLES,
+        PRIVILEGES,
+        ROLES,
+        PRIVILEGES,
+        ROLES,
+        PRIVILEGES,
+        ROLES,
+        PRIVILEGES,
+        ROLES,
+        PRIVILEGES,
+        ROLES,
+        PRIVILEGES,
+        ROLES,
+        PRIVILEGES,
+        ROLES,
+        PRIVILEGES,
+        ROLES,
+        PRIVILEGES,
+        ROLES,
+        PRIVILEGES,
     ]
 }
 
