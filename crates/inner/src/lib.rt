@@ -6,6 +6,7 @@ ghost use lib.ListN.{length};
 ghost use Rattle.model.specs.Lists.{firstPlace};
 ghost use Rattle.model.specs.Limits.{stateSize};
 ghost use Rattle.model.specs.Layout.{decode, policyOf};
+ghost use Rattle.model.specs.Conditions.{active, kindNumbered};
 ghost use Rattle.model.specs.Sound.{sameCertificate};
 ghost use Rattle.model.specs.Calls.{fresh as freshCall, activate as activateCall, appoint as appointCall};
 ghost use Rattle.model.specs.Words.{Sound};
@@ -116,6 +117,16 @@ pub fn activate(
     }
 }
 
+// The user is active in the kind's appointer role.
+fn is_appointer(kinds: &[u16], state: &[u16], user: u16, kind: u16) -> bool
+    requires { ⌜ Sized (now state) ⌝ }
+    ensures { λ r. ⌜ r ≡ active (decode (now (state .entry)) .rows) user (kindNumbered (policyOf (withoutRights [] (now (kinds .entry)))) kind .appointer) ⌝ }
+{
+    let row = table::kind_numbered(kinds, table::wide(kind));
+    let k = table::wide(state[ROW_COUNT]);
+    table::is_active(state, k, user, row.appointer)
+}
+
 pub fn appoint(
     rules: &[u16],
     kinds: &[u16],
@@ -137,9 +148,7 @@ pub fn appoint(
     if kinds.len() / KIND_WIDTH <= table::wide(kind) {
         return refused(3);
     }
-    let row = table::kind_numbered(kinds, table::wide(kind));
-    let k = table::wide(state[ROW_COUNT]);
-    if !table::is_active(state, k, appointer, row.appointer) {
+    if !is_appointer(kinds, state, appointer, kind) {
         return refused(7);
     }
     let certificate = Certificate {
