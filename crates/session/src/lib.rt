@@ -37,7 +37,7 @@ fn run(
     requires { ⌜ T (sound (policyOf (lent (now rules) (now kinds) (now rights))) (now state)) × (from ≤ length (now text)) × (taken ≤ from) × (length (now text) ≤ mostBytes) × (2 * length (now text) + 16 ≤ length (now out)) ⌝ }
     ensures { λ r. ⌜ Holds (now (out .exit)) r (steps (running (lent (now (rules .entry)) (now (kinds .entry)) (now (rights .entry))) (now (state .entry)) taken []) (linesFrom (now (text .entry)) from) .written) ⌝ }
 {
-    let judged = policy::policy_sound(rules, kinds, rights);
+    let sound_policy = policy::policy_sound(rules, kinds, rights);
     let mut at = from;
     let mut n = taken;
     let mut w: usize = 0;
@@ -50,7 +50,7 @@ fn run(
         if WORDS <= line.word {
             return writer::write_bad(out, w, n);
         }
-        let answer = event::answer_event(rules, kinds, rights, judged, state, line);
+        let answer = event::answer_event(rules, kinds, rights, sound_policy, state, line);
         w = writer::write_answer(out, w, answer);
         at = reader::next_from(text, at);
     }
