@@ -87,19 +87,15 @@ row-appended s s′ r f room a = as-encoded s′ (withRows (decode s) (decode s 
           certificates-end = λ k h. a .above k (omega arith) ∙ f .certificates-end k (omega (arith, a .above 833 (omega arith)));
         }
 
-certificates-more : (s : List ℕ) (k : ℕ) → firstCertificates s (k + 1) ≡ firstCertificates s k ++ (certificateAt s k ∷ [])
-unfolding firstCertificates certificateAt
-certificates-more s k = entries-more certificateFrom 3 (certificateNumbers s) k
-
 pub certificate-appended : (s s′ : List ℕ) (c : Certificate) → Formed s → certificateCount s < 256 → Appended s s′ 833 (c .appointee) (c .kind) (c .appointer) → s′ ≡ encode (withCertificates (decode s) (decode s .certificates ++ (c ∷ [])))
-unfolding decode firstCertificates
+unfolding decode firstCertificates certificateAt
 certificate-appended s s′ c f room a = as-encoded s′ (withCertificates (decode s) (decode s .certificates ++ (c ∷ []))) form (λ j. record { facts = facts-kept s s′ (a .size) (λ k h. a .below k (omega arith)) j; rows = rows-all-same s s′ (a .size) (λ k h l. a .below k l) j; certificates = certificates j })
   where
     new : certificateAt s′ (certificateCount s) ≡ c
     new = certificate-places s′ (certificateCount s) room ∙ new-three makeCertificate s s′ 833 (c .appointee) (c .kind) (c .appointer) a
 
     certificates : firstCertificates s′ (certificateCount s′) ≡ firstCertificates s (certificateCount s) ++ (c ∷ [])
-    certificates = ap (firstCertificates s′) (a .count) ∙ certificates-more s′ (certificateCount s) ∙ (λ j. certificates-first-same s s′ (certificateCount s) (f .certificates) (λ k h l. a .kept k (omega arith) (omega arith)) j ++ (new j ∷ []))
+    certificates = ap (firstCertificates s′) (a .count) ∙ entries-more certificateFrom 3 (certificateNumbers s′) (certificateCount s) ∙ (λ j. certificates-first-same s s′ (certificateCount s) (f .certificates) (λ k h l. a .kept k (omega arith) (omega arith)) j ++ (new j ∷ []))
 
     form : Formed s′
     form =

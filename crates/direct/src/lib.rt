@@ -60,11 +60,11 @@ fn note_sixteen(rights: &[u16], privilege: u16, from: usize, having: &mut [bool]
 }
 
 // Which roles have the privilege themselves: one pass over the rights serves all the rows that are asked afterwards.
-pub fn roles_having(rights: &[u16], privilege: u16) -> [bool; 256]
+pub fn roles_having(rights: &[u16], privilege: u16) -> [bool; ROLES as usize]
     requires { ⌜ RightsFit (now rights) ⌝ }
     ensures { λ r. ⌜ Having (now (rights .entry)) privilege r ⌝ }
 {
-    let mut having = [false; 256];
+    let mut having = [false; ROLES as usize];
     let n = rights.len() / RIGHT_WIDTH;
     let mut i: usize = 0;
     while i + 16 <= n {
@@ -76,7 +76,7 @@ pub fn roles_having(rights: &[u16], privilege: u16) -> [bool; 256]
 }
 
 // The role has the privilege itself.
-pub fn has_right(having: &[bool; 256], role: u16) -> bool
+pub fn has_right(having: &[bool; ROLES as usize], role: u16) -> bool
     ensures { λ r. ⌜ r ≡ hasRight (now (having .entry)) role ⌝ }
 {
     if role < ROLES {
@@ -86,7 +86,7 @@ pub fn has_right(having: &[bool; 256], role: u16) -> bool
 }
 
 // The row is the user's, and its role has the privilege.
-fn row_carries(having: &[bool; 256], row: Row, user: u16) -> bool
+fn row_carries(having: &[bool; ROLES as usize], row: Row, user: u16) -> bool
     ensures { λ r. ⌜ r ≡ (eqb (row .user) user && hasRight (now (having .entry)) (row .role)) ⌝ }
 {
     if row.user == user {

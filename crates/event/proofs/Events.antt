@@ -21,7 +21,7 @@ use Rattle.program.specs.Program.{lineCall}
 use Rattle.program.specs.declared.Line.{Line}
 use Rattle.inner.specs.Lent.{Answers}
 use Rattle.calls.proofs.Judged.{unsound, no-policy}
-use Rattle.event.specs.Answerable.{Answerable}
+use Rattle.event.specs.SoundIf.{SoundIf}
 
 -- ── the call of a line ──
 
@@ -34,7 +34,7 @@ calls l =
     let d = number (l .numbers) 3 in
     activate a b ∷ appoint a b c ∷ revoke a b c d ∷ withdraw a b c ∷ environment a b ∷ logout a ∷ invoke a b ∷ effective a b c ∷ []
 
-pub call-is : (l : Line) (w : ℕ) → l .word ≡ w → getD (calls l) (w - 3) fresh ≡ lineCall l
+call-is : (l : Line) (w : ℕ) → l .word ≡ w → getD (calls l) (w - 3) fresh ≡ lineCall l
 unfolding lineCall
 call-is l w e = ap (λ (n : ℕ). getD (calls l) (n - 3) fresh) (sym e)
 
@@ -70,8 +70,8 @@ keeps-sound t s s′ c r h a = go (lt-or-ge 0 (answer t s [] c .code))
     go (inl n) = subst⁻¹ (λ (l : List ℕ). T (sound (policyOf t) l)) (a .state-kept ∙ refused-unchanged t s [] c (λ z. omega arith) .state-same) h
     go (inr n) = subst⁻¹ (λ (l : List ℕ). T (sound (policyOf t) l)) (a .state-kept) (accepted-sound t s [] c (omega arith))
 
-pub answerable-sound : (t : Tables) (s : List ℕ) (judged : Bool) → Answerable t s judged → judged ≡ true → Sound t s
-answerable-sound t s judged h e = record { policy = of-true (soundPolicy t) (sym (h .policy) ∙ e); state = h .state }
+pub both-sound : (t : Tables) (s : List ℕ) (sound-policy : Bool) → SoundIf t s sound-policy → sound-policy ≡ true → Sound t s
+both-sound t s sound-policy h e = record { policy = of-true (soundPolicy t) (sym (h .policy) ∙ e); state = h .state }
 
 -- the answer of the call at a word's place is the line's
 pub answers-line : (t : Tables) (s s′ : List ℕ) (l : Line) (r : Answer) (w : ℕ) → l .word ≡ w → Answers t s (getD (calls l) (w - 3) fresh) r s′ → Answers t s (lineCall l) r s′

@@ -1,1 +1,1 @@
-pub mod Answerable
+pub mod SoundIf

@@ -8,7 +8,7 @@ ghost use Rattle.model.specs.Words.{Sound};
 ghost use Rattle.program.specs.Vocabulary.{words, policyWords};
 ghost use Rattle.program.specs.Program.{lineCall};
 ghost use Rattle.inner.specs.Lent.{lent, Answers};
-ghost use Rattle.event.specs.Answerable.{Answerable};
+ghost use Rattle.event.specs.SoundIf.{SoundIf};
 use model::Answer;
 use program::Line;
 
@@ -36,15 +36,15 @@ pub fn answer_event(
     rules: &[u16],
     kinds: &[u16],
     rights: &[u16],
-    judged: bool,
+    sound_policy: bool,
     state: &mut [u16],
     line: Line,
 ) -> Answer
-    requires { ⌜ Answerable (lent (now rules) (now kinds) (now rights)) (now state) judged × (policyWords ≤ line .word) × (line .word < words) ⌝ }
+    requires { ⌜ SoundIf (lent (now rules) (now kinds) (now rights)) (now state) «sound_policy» × (policyWords ≤ line .word) × (line .word < words) ⌝ }
     ensures answer { λ r. ⌜ Answers (lent (now (rules .entry)) (now (kinds .entry)) (now (rights .entry))) (now (state .entry)) (lineCall line) r (now (state .exit)) ⌝ }
     ensures kept { λ r. ⌜ T (sound (policyOf (lent (now (rules .entry)) (now (kinds .entry)) (now (rights .entry)))) (now (state .exit))) ⌝ }
 {
-    if !judged {
+    if !sound_policy {
         return Answer { code: 1, second: 0 };
     }
     call(rules, kinds, rights, state, line)

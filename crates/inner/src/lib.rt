@@ -6,6 +6,7 @@ ghost use lib.ListN.{length};
 ghost use Rattle.model.specs.Lists.{firstPlace};
 ghost use Rattle.model.specs.Limits.{stateSize};
 ghost use Rattle.model.specs.Layout.{decode, policyOf};
+ghost use Rattle.model.specs.Conditions.{active, kindNumbered};
 ghost use Rattle.model.specs.Sound.{sameCertificate};
 ghost use Rattle.model.specs.Calls.{fresh as freshCall, activate as activateCall, appoint as appointCall};
 ghost use Rattle.model.specs.Words.{Sound};
@@ -16,6 +17,8 @@ use model::Answer;
 use model::CERTIFICATE_COUNT;
 use model::Certificate;
 use model::KIND_WIDTH;
+use model::MOST_CERTIFICATES;
+use model::MOST_ROWS;
 use model::ROLES;
 use model::ROW_COUNT;
 use model::RULE_WIDTH;
@@ -103,7 +106,7 @@ pub fn activate(
         return refused(5);
     }
     let k = table::wide(state[ROW_COUNT]);
-    if 256 <= k {
+    if MOST_ROWS <= k {
         return refused(6);
     }
     let rule = i as u16;
@@ -112,6 +115,16 @@ pub fn activate(
         code: 0,
         second: rule,
     }
+}
+
+// The user is active in the kind's appointer role.
+fn is_appointer(kinds: &[u16], state: &[u16], user: u16, kind: u16) -> bool
+    requires { ⌜ Sized (now state) ⌝ }
+    ensures { λ r. ⌜ r ≡ active (decode (now (state .entry)) .rows) user (kindNumbered (policyOf (withoutRights [] (now (kinds .entry)))) kind .appointer) ⌝ }
+{
+    let row = table::kind_numbered(kinds, table::wide(kind));
+    let k = table::wide(state[ROW_COUNT]);
+    table::is_active(state, k, user, row.appointer)
 }
 
 pub fn appoint(
@@ -135,9 +148,7 @@ pub fn appoint(
     if kinds.len() / KIND_WIDTH <= table::wide(kind) {
         return refused(3);
     }
-    let row = table::kind_numbered(kinds, table::wide(kind));
-    let k = table::wide(state[ROW_COUNT]);
-    if !table::is_active(state, k, appointer, row.appointer) {
+    if !is_appointer(kinds, state, appointer, kind) {
         return refused(7);
     }
     let certificate = Certificate {
@@ -149,7 +160,7 @@ pub fn appoint(
     if find_certificate(state, certificate) < n {
         return refused(8);
     }
-    if 256 <= n {
+    if MOST_CERTIFICATES <= n {
         return refused(6);
     }
     change::append_certificate(state, certificate);

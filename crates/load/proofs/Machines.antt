@@ -47,7 +47,7 @@ still : (m : Machine) (l : Line) → m .stopped ≡ true → step m l ≡ m
 unfolding step
 still m l e = ap (λ (b : Bool). cond b m (cond (isBad m l) (afterBad m) (cond (isPolicy l) (afterPolicy m l) (afterEvent m (answer (m .tables) (m .state) [] (lineCall l)))))) e
 
-pub stopped-stays : (m : Machine) (ls : List Line) → m .stopped ≡ true → steps m ls ≡ m
+stopped-stays : (m : Machine) (ls : List Line) → m .stopped ≡ true → steps m ls ≡ m
 stopped-stays m [] e = refl
 stopped-stays m (l ∷ ls) e = ap (λ (x : Machine). steps x ls) (still m l e) ∙ stopped-stays m ls e
 
@@ -123,7 +123,7 @@ module _ (rules kinds rights : List ℕ) (c : Counts) (size₁ : c .rules * 11 �
           let e : l .word ≡ 2 = is-right c l h (λ z. omega arith) (λ z. omega arith) in
           ((λ i. some (e i) full₁ full₂ (free 2048 2 rights (c .rights) (omega arith) size₃ (rights-below c l h e) i) false), omega (arith, e))
 
-  pub row-taken : (taken : ℕ) → hasRoom c l ≡ true → step (loading (tablesOf rules kinds rights c) taken) l ≡ loading (withRow (tablesOf rules kinds rights c) l) (suc taken)
+  row-taken : (taken : ℕ) → hasRoom c l ≡ true → step (loading (tablesOf rules kinds rights c) taken) l ≡ loading (withRow (tablesOf rules kinds rights c) l) (suc taken)
   unfolding afterPolicy
   row-taken taken h = let g = room-good h in policy-taken (loading (tablesOf rules kinds rights c) taken) l refl (bad-is (loading (tablesOf rules kinds rights c) taken) l ∙ g .0) (g .1)
 
@@ -137,7 +137,7 @@ module _ (rules kinds rights : List ℕ) (c : Counts) (size₁ : c .rules * 11 �
       go (inr a) (inr b) = let e : l .word ≡ 2 = omega arith in λ i. some (e i) full₁ full₂ (full 2048 2 rights (c .rights) (omega arith) size₃ (ltb-false (c .rights) 2048 (room c l e ∙ h)) i) came
 
   -- so the program goes on as if an event had come
-  pub events-begin : (taken : ℕ) (ls : List Line) → hasRoom c l ≡ false → steps (loading (tablesOf rules kinds rights c) taken) (l ∷ ls) .written ≡ steps (running (tablesOf rules kinds rights c) (replicate 1602 0) taken []) (l ∷ ls) .written
+  events-begin : (taken : ℕ) (ls : List Line) → hasRoom c l ≡ false → steps (loading (tablesOf rules kinds rights c) taken) (l ∷ ls) .written ≡ steps (running (tablesOf rules kinds rights c) (replicate 1602 0) taken []) (l ∷ ls) .written
   unfolding afterEvent
   events-begin taken ls h = go (lt-or-ge (l .word) 3)
     where
@@ -159,7 +159,7 @@ module _ (rules kinds rights : List ℕ) (c : Counts) (size₁ : c .rules * 11 �
 
 -- ── the fewest numbers of a record of the policy ──
 
-pub two-numbers : (c : Counts) (bytes : List ℕ) → hasRoom c (lineOf bytes) ≡ true → 2 ≤ lineOf bytes .count
+two-numbers : (c : Counts) (bytes : List ℕ) → hasRoom c (lineOf bytes) ≡ true → 2 ≤ lineOf bytes .count
 two-numbers c bytes h = go (lt-or-ge (lineOf bytes .word) 1) (lt-or-ge (lineOf bytes .word) 2)
   where
     least : (w : ℕ) → lineOf bytes .word ≡ w → w < 11 → 2 ≤ numbered w .least → 2 ≤ lineOf bytes .count
@@ -191,7 +191,7 @@ going-starts text rules kinds rights a b c =
     record { in-text = omega arith; few = omega arith; rules-size = a; kinds-size = b; rights-size = c; rules-room = omega arith; kinds-room = omega arith; rights-room = omega arith; so-far = refl }
 
 module _ (text rules kinds rights : List ℕ) (at taken : ℕ) (c : Counts) (g : Going text rules kinds rights at taken c) where
-  pub going-on : (rules′ kinds′ rights′ : List ℕ) (c′ : Counts) → at < length text → hasRoom c (lineAt text at) ≡ true → length rules′ ≡ 5632 → length kinds′ ≡ 896 → length rights′ ≡ 4096
+  going-on : (rules′ kinds′ rights′ : List ℕ) (c′ : Counts) → at < length text → hasRoom c (lineAt text at) ≡ true → length rules′ ≡ 5632 → length kinds′ ≡ 896 → length rights′ ≡ 4096
       → tablesOf rules′ kinds′ rights′ c′ ≡ withRow (tablesOf rules kinds rights c) (lineAt text at) → (c′ .rules ≤ 512) × (c′ .kinds ≤ 128) × (c′ .rights ≤ 2048) → Going text rules′ kinds′ rights′ (nextAt text at) (taken + 1) c′
   going-on rules′ kinds′ rights′ c′ h room a b d e r =
       record {

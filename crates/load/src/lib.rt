@@ -9,6 +9,9 @@ ghost use Rattle.model.specs.Limits.{mostRules, mostKinds, mostRights};
 ghost use Rattle.program.specs.Program.{ruleRow, kindRow, rightRow, withRow};
 ghost use Rattle.load.specs.Rows.{tablesOf, hasRoom, Loads};
 use model::KIND_WIDTH;
+use model::MOST_KINDS;
+use model::MOST_RIGHTS;
+use model::MOST_RULES;
 use model::RIGHT_WIDTH;
 use model::RULE_WIDTH;
 use program::Line;
@@ -44,13 +47,13 @@ fn has_room(counts: Counts, line: Line) -> bool
 {
     let word = line.word;
     if word == RULE {
-        return counts.rules < 512;
+        return counts.rules < MOST_RULES;
     }
     if word == KIND {
-        return counts.kinds < 128;
+        return counts.kinds < MOST_KINDS;
     }
     if word == RIGHT {
-        return counts.rights < 2048;
+        return counts.rights < MOST_RIGHTS;
     }
     false
 }

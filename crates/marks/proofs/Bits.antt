@@ -43,7 +43,7 @@ bit-of-power (suc j) (suc i) = down (2 ^ suc j) i ∙ ap (λ (n : ℕ). bit n i)
     half = ap (λ (n : ℕ). n / 2) (pow-suc 2 j) ∙ omega arith
 
 -- bit j is set, and no other changes
-pub bit-set : (w j i : ℕ) → bit (bitOr w (2 ^ j)) i ≡ (eqb i j || bit w i)
+bit-set : (w j i : ℕ) → bit (bitOr w (2 ^ j)) i ≡ (eqb i j || bit w i)
 bit-set w j i =
     ap (λ (n : ℕ). eqb (n % 2) 1) (or-shr w (2 ^ j) i)
     ∙ ap (λ (n : ℕ). eqb n 1) (or-mod (w / 2 ^ i) (2 ^ j / 2 ^ i) 1)

@@ -29,7 +29,7 @@ use Rattle.model.proofs.Kept.{certificates-fit, sound-rows, row-added, 
 
 -- ── a sound state supports its rows, and taking from it leaves the largest part ──
 
-pub sound-supported : (p : Policy) (t : State) → SoundState p t → Supported (supported (worldOf p t)) (t .rows)
+sound-supported : (p : Policy) (t : State) → SoundState p t → Supported (supported (worldOf p t)) (t .rows)
 sound-supported p t h r m =
     let e : (before : List Row) × (after : List Row) × (t .rows ≡ before ++ (r ∷ after)) × T (rowSound (worldOf p t) ([] ++ before) r) = earlier-of (rowSound (worldOf p t)) [] (t .rows) (sound-rows p t h) r m in
     supported-grows (worldOf p t) (e .0) (t .rows) r
@@ -45,7 +45,7 @@ fallen-largest p before after h = left-largest (supported (worldOf p after)) (Se
 pub by-user : (u : ℕ) → ByUser (ofUser u)
 by-user u = record { alike = λ a b e t. subst (λ (n : ℕ). T (eqb n u)) e t }
 
-pub nothing-sound : (p : Policy) → SoundState p nothing
+nothing-sound : (p : Policy) → SoundState p nothing
 unfolding soundRecords
 nothing-sound p = record { fits = record { all-facts = refl; bits = tt; room-for-rows = omega arith; room-for-certificates = omega arith }; records = tt }
 
@@ -53,15 +53,15 @@ pub zeros-sound : (p : Policy) → T (sound p (replicate stateSize 0))
 unfolding sound soundRecords decode formClauses
 zeros-sound p = tt
 
-pub certificate-gone-fits : (t : State) (c : Certificate) → Fits t → Fits (withoutCertificate t c)
+certificate-gone-fits : (t : State) (c : Certificate) → Fits t → Fits (withoutCertificate t c)
 certificate-gone-fits t c f =
     certificates-fit t (without (sameCertificate c) (t .certificates)) f
     (omega (arith, part-length (without (sameCertificate c) (t .certificates)) (t .certificates) (without-part (sameCertificate c) (t .certificates)), f .room-for-certificates))
 
-pub certificate-gone-sound : (p : Policy) (t : State) (c : Certificate) → SoundState p t → SoundState p (withRows (withoutCertificate t c) (left (supported (worldOf p (withoutCertificate t c))) (t .rows)))
+certificate-gone-sound : (p : Policy) (t : State) (c : Certificate) → SoundState p t → SoundState p (withRows (withoutCertificate t c) (left (supported (worldOf p (withoutCertificate t c))) (t .rows)))
 certificate-gone-sound p t c h = fallen-sound p t (withoutCertificate t c) h (certificate-gone-fits t c (h .fits)) (without-part (sameCertificate c) (t .certificates)) (sound-rows p t h)
 
-pub fact-set-sound : (p : Policy) (t : State) (f v : ℕ) → T (isBit v) → SoundState p t → SoundState p (withRows (withFact t f v) (left (supported (worldOf p (withFact t f v))) (t .rows)))
+fact-set-sound : (p : Policy) (t : State) (f v : ℕ) → T (isBit v) → SoundState p t → SoundState p (withRows (withFact t f v) (left (supported (worldOf p (withFact t f v))) (t .rows)))
 fact-set-sound p t f v b h = fallen-sound p t (withFact t f v) h (fact-fits t f v (h .fits) b) (Sublistᴰ·refl (t .certificates)) (sound-rows p t h)
 
 -- ── each call ──

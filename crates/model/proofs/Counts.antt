@@ -74,7 +74,7 @@ module _ (t : Tables) (s list : List ℕ) (granted lost : ℕ) (even : granted �
   accepted-even (effective u q x) e = rw (rows-after (effective u q x) e) even
   accepted-even (chain u q) e = rw (rows-after (chain u q) e) even
 
-  pub call-even : (c : Call) → Even c
+  call-even : (c : Call) → Even c
   call-even c = go (accepted-or-refused t s list c)
     where
       go : (answer t s list c .code ≡ 0) ⊎ (answer t s list c .code ≢ 0) → Even c

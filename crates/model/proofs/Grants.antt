@@ -120,7 +120,7 @@ module _ (t : Tables) (s list : List ℕ) (u x : ℕ) where
     carried-invoked v = allowed-one .1 v
 
     module _ (q : ℕ) (c : q < roles) (active-now : T (active (decode s .rows) u q)) where
-      pub effective-accepted : answer t s list (effective u q x) .code ≡ 0
+      effective-accepted : answer t s list (effective u q x) .code ≡ 0
       unfolding courseOf judgedFirst effectiveOn
       effective-accepted =
           passed-accepted t s list (effective u q x) (

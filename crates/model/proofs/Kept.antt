@@ -33,13 +33,13 @@ pub sound-rows : (p : Policy) (t : State) → SoundState p t → T (allOverEarli
 unfolding soundRecords
 sound-rows p t h = and-right (allOverEarlier (certificateSound p) [] (t .certificates)) (allOverEarlier (rowSound (worldOf p t)) [] (t .rows)) (h .records)
 
-pub sound-state : (p : Policy) (t : State) → Fits t → T (allOverEarlier (certificateSound p) [] (t .certificates)) → T (allOverEarlier (rowSound (worldOf p t)) [] (t .rows)) → SoundState p t
+sound-state : (p : Policy) (t : State) → Fits t → T (allOverEarlier (certificateSound p) [] (t .certificates)) → T (allOverEarlier (rowSound (worldOf p t)) [] (t .rows)) → SoundState p t
 unfolding soundRecords
 sound-state p t f c r = record { fits = f; records = and-both (allOverEarlier (certificateSound p) [] (t .certificates)) (allOverEarlier (rowSound (worldOf p t)) [] (t .rows)) c r }
 
 -- ── other rows, or other certificates, where there is room for them ──
 
-pub rows-fit : (t : State) (rows : List Row) → Fits t → length rows ≤ mostRows → Fits (withRows t rows)
+rows-fit : (t : State) (rows : List Row) → Fits t → length rows ≤ mostRows → Fits (withRows t rows)
 rows-fit t rows f room = record { all-facts = f .all-facts; bits = f .bits; room-for-rows = room; room-for-certificates = f .room-for-certificates }
 
 pub certificates-fit : (t : State) (certificates : List Certificate) → Fits t → length certificates ≤ mostCertificates → Fits (withCertificates t certificates)
@@ -68,7 +68,7 @@ take-grows (suc m) (suc n) (y ∷ l) x h k = go (λ v. take-grows m n l x (omega
     go f (inl e) = List·Memᴰ·head e
     go f (inr v) = List·Memᴰ·tail (f v)
 
-pub rule-fits : (t : Tables) → T (soundPolicy t) → (i : ℕ) → i < length (policyOf t .rules) → T (ruleFits (policyOf t) (ruleNumbered (policyOf t) i))
+rule-fits : (t : Tables) → T (soundPolicy t) → (i : ℕ) → i < length (policyOf t .rules) → T (ruleFits (policyOf t) (ruleNumbered (policyOf t) i))
 unfolding policyClauses
 rule-fits t h i l = all-of (ruleFits (policyOf t)) (policyOf t .rules) (each (policyClauses t) h .1 .1 .1 .1 .1 .1 .0) (ruleNumbered (policyOf t) i) (at-place (policyOf t .rules) i _ l)
 
@@ -121,7 +121,7 @@ certificate-fewer p few many c d t =
     of-each (certificateClauses p few c)
     (e .0, (e .1 .0, (e .1 .1 .0, (not-T (any (sameCertificate c) few) (λ h. T-not (any (sameCertificate c) many) (e .1 .1 .1 .0) (any-map (sameCertificate c) (sameCertificate c) few many (λ x m v. (part-member x few many d m, v)) h)), tt))))
 
-pub certificates-fewer : (p : Policy) (few many : List Certificate) → Sublistᴰ few many → T (allOverEarlier (certificateSound p) [] many) → T (allOverEarlier (certificateSound p) [] few)
+certificates-fewer : (p : Policy) (few many : List Certificate) → Sublistᴰ few many → T (allOverEarlier (certificateSound p) [] many) → T (allOverEarlier (certificateSound p) [] few)
 certificates-fewer p few many d t = earlier-part (certificateSound p) (certificate-fewer p) [] [] few many Sublistᴰ·slnil d t
 
 -- whatever became of facts and certificates: with what is left of the rows the state is sound again
@@ -179,7 +179,7 @@ users-gone p t gone by h =
 
 -- ── facts ──
 
-pub set-bits : (l : List ℕ) (i v : ℕ) → T (all isBit l) → T (isBit v) → T (all isBit (set l i v))
+set-bits : (l : List ℕ) (i v : ℕ) → T (all isBit l) → T (isBit v) → T (all isBit (set l i v))
 set-bits [] i v t b = tt
 set-bits (x ∷ l) zero v t b = and-both (isBit v) (all isBit l) b (and-right (isBit x) (all isBit l) t)
 set-bits (x ∷ l) (suc i) v t b = and-both (isBit x) (all isBit (set l i v)) (and-left (isBit x) (all isBit l) t) (set-bits l i v (and-right (isBit x) (all isBit l) t) b)

@@ -26,12 +26,12 @@ length-rows w zero l = refl
 length-rows w (suc n) l = ap suc (length-rows w n (drop w l))
 
 module _ {A : Type 0} (w : ℕ) (to : List ℕ → A) (from : A → List ℕ) where
-  pub length-joined : ((x : A) → length (from x) ≡ w) → (xs : List A) → length (joined from xs) ≡ length xs * w
+  length-joined : ((x : A) → length (from x) ≡ w) → (xs : List A) → length (joined from xs) ≡ length xs * w
   length-joined wide [] = sym (zero-mul w)
   length-joined wide (x ∷ xs) = length-append (from x) (joined from xs) ∙ omega (arith, wide x, length-joined wide xs, suc-mul (length xs) w)
 
   -- the values come back, whatever stands behind them
-  pub values-back : ((x : A) → length (from x) ≡ w) → ((x : A) → to (from x) ≡ x) → (xs : List A) (behind : List ℕ) → map to (rowsOf w (length xs) (joined from xs ++ behind)) ≡ xs
+  values-back : ((x : A) → length (from x) ≡ w) → ((x : A) → to (from x) ≡ x) → (xs : List A) (behind : List ℕ) → map to (rowsOf w (length xs) (joined from xs ++ behind)) ≡ xs
   values-back wide back [] behind = refl
   values-back wide back (x ∷ xs) behind =
       ap (λ (l : List ℕ). to (take w l) ∷ map to (rowsOf w (length xs) (drop w l))) (append-assoc (from x) (joined from xs) behind)
@@ -40,7 +40,7 @@ module _ {A : Type 0} (w : ℕ) (to : List ℕ → A) (from : A → List ℕ) wh
       ∙ (λ i. back x i ∷ values-back wide back xs behind i)
 
   -- the numbers come back, as many as the rows had
-  pub numbers-back : ((row : List ℕ) → length row ≡ w → from (to row) ≡ row) → (n : ℕ) (l : List ℕ) → n * w ≤ length l → joined from (map to (rowsOf w n l)) ≡ take (n * w) l
+  numbers-back : ((row : List ℕ) → length row ≡ w → from (to row) ≡ row) → (n : ℕ) (l : List ℕ) → n * w ≤ length l → joined from (map to (rowsOf w n l)) ≡ take (n * w) l
   numbers-back forth zero l h = sym (ap (λ (k : ℕ). take k l) (zero-mul w))
   numbers-back forth (suc n) l h =
       (λ i. forth (take w l) (length-take-le w l (omega (arith, suc-mul n w))) i ++ numbers-back forth n (drop w l) (simp length-drop (omega (arith, suc-mul n w))) i)
@@ -71,28 +71,28 @@ filled-back size k l e h t =
 -- ── two counted tables behind a first part ──
 
 module _ (a b c : List ℕ) (x y n m : ℕ) (sa : length a ≡ n) (sb : length b ≡ m) where
-  pub first-part : take n ((a ++ (x ∷ b)) ++ (y ∷ c)) ≡ a
+  first-part : take n ((a ++ (x ∷ b)) ++ (y ∷ c)) ≡ a
   first-part = ap (λ (l : List ℕ). take n l) (append-assoc a (x ∷ b) (y ∷ c)) ∙ take-at a ((x ∷ b) ++ (y ∷ c)) n sa
 
-  pub first-count : getD ((a ++ (x ∷ b)) ++ (y ∷ c)) n 0 ≡ x
+  first-count : getD ((a ++ (x ∷ b)) ++ (y ∷ c)) n 0 ≡ x
   first-count = ap (λ (l : List ℕ). getD l n 0) (append-assoc a (x ∷ b) (y ∷ c)) ∙ getD-at a x (b ++ (y ∷ c)) 0 n sa
 
-  pub first-table : take m (drop (n + 1) ((a ++ (x ∷ b)) ++ (y ∷ c))) ≡ b
+  first-table : take m (drop (n + 1) ((a ++ (x ∷ b)) ++ (y ∷ c))) ≡ b
   first-table =
       ap (λ (l : List ℕ). take m (drop (n + 1) l)) (append-assoc a (x ∷ b) (y ∷ c) ∙ sym (append-assoc a (x ∷ []) (b ++ (y ∷ c))))
       ∙ ap (λ (l : List ℕ). take m l) (drop-at (a ++ (x ∷ [])) (b ++ (y ∷ c)) (n + 1) (length-append a (x ∷ []) ∙ omega arith))
       ∙ take-at b (y ∷ c) m sb
 
-  pub second-count : getD ((a ++ (x ∷ b)) ++ (y ∷ c)) (n + 1 + m) 0 ≡ y
+  second-count : getD ((a ++ (x ∷ b)) ++ (y ∷ c)) (n + 1 + m) 0 ≡ y
   second-count = getD-at (a ++ (x ∷ b)) y c 0 (n + 1 + m) (length-append a (x ∷ b) ∙ omega arith)
 
-  pub second-table : drop (n + 1 + m + 1) ((a ++ (x ∷ b)) ++ (y ∷ c)) ≡ c
+  second-table : drop (n + 1 + m + 1) ((a ++ (x ∷ b)) ++ (y ∷ c)) ≡ c
   second-table =
       ap (λ (l : List ℕ). drop (n + 1 + m + 1) l) (sym (append-assoc (a ++ (x ∷ b)) (y ∷ []) c))
       ∙ drop-at ((a ++ (x ∷ b)) ++ (y ∷ [])) c (n + 1 + m + 1) (length-append (a ++ (x ∷ b)) (y ∷ []) ∙ omega (arith, length-append a (x ∷ b)))
 
 -- a list long enough is made of such parts
-pub in-parts : (s : List ℕ) (n m : ℕ) → n + 1 + m + 1 ≤ length s
+in-parts : (s : List ℕ) (n m : ℕ) → n + 1 + m + 1 ≤ length s
     → s ≡ (take n s ++ (getD s n 0 ∷ take m (drop (n + 1) s))) ++ (getD s (n + 1 + m) 0 ∷ drop (n + 1 + m + 1) s)
 in-parts s n m h =
     split-at s n 0 (omega arith)

@@ -38,7 +38,7 @@ use Rattle.model.proofs.Taken.{Fewer, goneRow, gone-by-user, any-order,
 abbrev fallen : Policy → State → State
 fallen p t = withRows t (left (supported (worldOf p t)) (t .rows))
 
-pub in-turn : (p : Policy) (t : State) (vs ws : List Withdrawal) → SoundState p t → allAtOnce p (allAtOnce p t vs) ws ≡ allAtOnce p t (vs ++ ws)
+in-turn : (p : Policy) (t : State) (vs ws : List Withdrawal) → SoundState p t → allAtOnce p (allAtOnce p t vs) ws ≡ allAtOnce p t (vs ++ ws)
 unfolding allAtOnce takenAway goneRow
 in-turn p t vs ws h = λ i. record { facts = taken-facts vs ws t (one .rows) i; rows = rows i; certificates = taken-certificates vs ws t (one .rows) i }
   where
@@ -166,14 +166,14 @@ module _ (t : Tables) (s : List ℕ) (h : Sound t s) where
   refused-takes-nothing (loggedOut u) n =
       user-taken (policyOf t) (decode s) u sound-now ∙ (λ i. record { facts = decode s .facts; rows = without-none (ofUser u) (decode s .rows) (user-refused u n) i; certificates = decode s .certificates })
 
-  pub one-withdrawal : (w : Withdrawal) → decode (answer t s [] (callOf w) .state) ≡ allAtOnce (policyOf t) (decode s) (w ∷ [])
+  one-withdrawal : (w : Withdrawal) → decode (answer t s [] (callOf w) .state) ≡ allAtOnce (policyOf t) (decode s) (w ∷ [])
   one-withdrawal w = go (accepted-or-refused t s [] (callOf w))
     where
       go : (answer t s [] (callOf w) .code ≡ 0) ⊎ (answer t s [] (callOf w) .code ≢ 0) → decode (answer t s [] (callOf w) .state) ≡ allAtOnce (policyOf t) (decode s) (w ∷ [])
       go (inl e) = effect-decoded t s [] (callOf w) e ∙ call-takes w
       go (inr n) = ap decode (refused-unchanged t s [] (callOf w) n .state-same) ∙ sym (refused-takes-nothing w n)
 
-  pub still-sound : (w : Withdrawal) → Sound t (answer t s [] (callOf w) .state)
+  still-sound : (w : Withdrawal) → Sound t (answer t s [] (callOf w) .state)
   still-sound w = record { policy = h .policy; state = go (accepted-or-refused t s [] (callOf w)) }
     where
       go : (answer t s [] (callOf w) .code ≡ 0) ⊎ (answer t s [] (callOf w) .code ≢ 0) → T (sound (policyOf t) (answer t s [] (callOf w) .state))

@@ -46,7 +46,7 @@ Passed (r ∷ rs) = T (not (r .applies)) × Passed rs
 abbrev pub hasCode : Refusal → Bool
 hasCode r = not (isZero (r .code))
 
-pub passed : (rs : List Refusal) → T (all hasCode rs) → firstCode rs ≡ 0 → Passed rs
+passed : (rs : List Refusal) → T (all hasCode rs) → firstCode rs ≡ 0 → Passed rs
 passed [] h e = tt
 passed (r ∷ rs) h e = go (λ q. passed rs (and-right (hasCode r) (all hasCode rs) h) q) (r .applies) e
   where
@@ -54,7 +54,7 @@ passed (r ∷ rs) h e = go (λ q. passed rs (and-right (hasCode r) (all hasCode 
     go f true q = absurd (T-not (isZero (r .code)) (and-left (hasCode r) (all hasCode rs) h) (subst⁻¹ (λ (n : ℕ). T (isZero n)) q tt))
     go f false q = (tt, f q)
 
-pub none-applies : (rs : List Refusal) → Passed rs → firstCode rs ≡ 0
+none-applies : (rs : List Refusal) → Passed rs → firstCode rs ≡ 0
 none-applies [] p = refl
 none-applies (r ∷ rs) p = go (r .applies) (p .0) (none-applies rs (p .1))
   where

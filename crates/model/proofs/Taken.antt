@@ -89,7 +89,7 @@ facts-fewer few many sub first (v ∷ l) zero t = go (any (namesFact first) few)
     go false false h u = u
 facts-fewer few many sub first (v ∷ l) (suc f) t = facts-fewer few many sub (suc first) l f t
 
-pub facts-same : (ws vs : List Withdrawal) → ((test : Withdrawal → Bool) → any test ws ≡ any test vs) → (first : ℕ) (l : List ℕ) → factsLeft ws first l ≡ factsLeft vs first l
+facts-same : (ws vs : List Withdrawal) → ((test : Withdrawal → Bool) → any test ws ≡ any test vs) → (first : ℕ) (l : List ℕ) → factsLeft ws first l ≡ factsLeft vs first l
 facts-same ws vs e first [] = refl
 facts-same ws vs e first (v ∷ l) = λ i. cond (e (namesFact first) i) 0 v ∷ facts-same ws vs e (suc first) l i
 
@@ -137,7 +137,7 @@ gone-by-user ws = record { alike = λ a b e t. any-map (namesUserOf a) (namesUse
     one (certificateGone c) a b e h = h
     one (loggedOut u) a b e h = subst (λ (n : ℕ). T (eqb n u)) e h
 
-pub taken-fits : (ws : List Withdrawal) (t : State) → Fits t → Fits (takenAway ws t)
+taken-fits : (ws : List Withdrawal) (t : State) → Fits t → Fits (takenAway ws t)
 unfolding takenAway
 taken-fits ws t f =
     record {
@@ -198,7 +198,7 @@ taken-rows vs ws t =
     (λ r h. twice-or vs ws (namesUserOf r) h) (λ r h. in-first vs ws (namesUserOf r) h) (λ r h. in-second vs ws (namesUserOf r) h)
 
 -- the rows that are not themselves taken away are as sound as before
-pub taken-rows-sound : (p : Policy) (t : State) (ws : List Withdrawal) → SoundState p t → T (allOverEarlier (rowSound (worldOf p t)) [] (takenAway ws t .rows))
+taken-rows-sound : (p : Policy) (t : State) (ws : List Withdrawal) → SoundState p t → T (allOverEarlier (rowSound (worldOf p t)) [] (takenAway ws t .rows))
 unfolding takenAway goneRow
 taken-rows-sound p t ws h = rows-without-user p t (goneRow ws) (gone-by-user ws) (sound-rows p t h)
 

@@ -1,11 +1,31 @@
 // The values that contracts name, and the numbers that code goes by. Everything that they mean stands in specs/.
 
-// "Users 0 to 4,095; roles 0 to 255; privileges 0 to 1,023"
+// "Users 0 to 4,095; roles 0 to 255; privileges 0 to 1,023; environment facts 0 to 63."
 pub const USERS: u16 = 4096;
 
 pub const ROLES: u16 = 256;
 
 pub const PRIVILEGES: u16 = 1024;
+
+pub const FACTS: u16 = 64;
+
+// Where the numbers of conditions begin to be kinds, facts and malformed.
+pub const FIRST_KIND: u16 = 256;
+
+pub const FIRST_FACT: u16 = 384;
+
+pub const FIRST_MALFORMED: u16 = 448;
+
+// How many rows each table may have.
+pub const MOST_RULES: usize = 512;
+
+pub const MOST_KINDS: usize = 128;
+
+pub const MOST_RIGHTS: usize = 2048;
+
+pub const MOST_ROWS: usize = 256;
+
+pub const MOST_CERTIFICATES: usize = 256;
 
 // How many numbers a row of each table has.
 pub const RULE_WIDTH: usize = 11;
@@ -18,8 +38,10 @@ pub const ROW_WIDTH: usize = 3;
 
 pub const CERTIFICATE_WIDTH: usize = 3;
 
-// Where the tables of a state stand, and how many numbers it has.
+// Where the tables of a state stand, and how many numbers it has. The facts come first.
 pub const STATE_SIZE: usize = 1602;
+
+pub const FACTS_END: usize = 64;
 
 pub const ROW_COUNT: usize = 64;
 

@@ -21,7 +21,7 @@ use Rattle.table.specs.Entries.{entries, entry, rightAt}
 use Rattle.table.proofs.Entries.{entries-more}
 use Rattle.policy.proofs.Clauses.{Fails, here, later}
 
-pub join-zero : (a b : ℕ) → eqb (bitOr a b) 0 ≡ (eqb a 0 && eqb b 0)
+join-zero : (a b : ℕ) → eqb (bitOr a b) 0 ≡ (eqb a 0 && eqb b 0)
 join-zero zero zero = refl
 join-zero zero (suc b) = refl
 join-zero (suc a) b = ne-eqb (bitOr (suc a) b) 0 (λ e. omega (arith, e, or-add-and (suc a) b, ap (λ (n : ℕ). n) (and-comm (suc a) b), and-le-l b (suc a))) ∙ ap (λ (v : Bool). v && eqb b 0) (sym (ne-eqb (suc a) 0 (λ e. omega (arith, e))))

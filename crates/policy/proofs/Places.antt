@@ -29,18 +29,16 @@ alike false true e = absurd (true≢false (sym e))
 alike false false e = refl
 
 abbrev table : List ℕ
-table =
-    0 ∷ 0 ∷ 0 ∷ 0 ∷ 0 ∷ 0 ∷ 0 ∷ 0 ∷ 1 ∷ 0 ∷ 0 ∷ 0 ∷ 0 ∷ 0 ∷ 0 ∷ 0 ∷ 1 ∷ 1 ∷ 0 ∷ 0 ∷ 0 ∷ 0 ∷ 0 ∷ 0 ∷ 1 ∷ 1 ∷ 1 ∷ 0 ∷ 0 ∷ 0 ∷ 0 ∷ 0 ∷ 1 ∷ 1 ∷ 1 ∷ 1 ∷ 0 ∷ 0 ∷ 0 ∷ 0
-    ∷ 1 ∷ 1 ∷ 1 ∷ 1 ∷ 1 ∷ 0 ∷ 0 ∷ 0 ∷ 1 ∷ 1 ∷ 1 ∷ 1 ∷ 1 ∷ 1 ∷ 0 ∷ 0 ∷ 1 ∷ 1 ∷ 1 ∷ 1 ∷ 1 ∷ 1 ∷ 1 ∷ 0 ∷ 1 ∷ 1 ∷ 1 ∷ 1 ∷ 1 ∷ 1 ∷ 1 ∷ 1 ∷ []
+table = 1 ∷ 1 ∷ 1 ∷ 1 ∷ 1 ∷ 1 ∷ 1 ∷ 1 ∷ 0 ∷ 0 ∷ 0 ∷ 0 ∷ 0 ∷ 0 ∷ 0 ∷ 0 ∷ []
 
 abbrev agrees : ℕ → ℕ → Bool
-agrees n j = same (eqb (getD table (n * 8 + j) 0) 1) (ltb j n)
+agrees n j = same (eqb (getD table (8 - n + j) 0) 1) (ltb j n)
 
 pub counting-is : Counting table
 counting-is =
     record {
       size = refl;
-      each = λ n j h l. alike (eqb (getD table (n * 8 + j) 0) 1) (ltb j n) (below-at (agrees n) 8 (of-true (below (agrees n) 8) (below-at (λ (m : ℕ). below (agrees m) 8) 9 tt n (omega arith))) j l);
+      each = λ n j h l. alike (eqb (getD table (8 - n + j) 0) 1) (ltb j n) (below-at (agrees n) 8 (of-true (below (agrees n) 8) (below-at (λ (m : ℕ). below (agrees m) 8) 9 tt n (omega arith))) j l);
     }
 
 abbrev pairs : List ℕ

@@ -1,5 +1,5 @@
 -- Tables that say which places count and which limits they have, so that several places are judged in one step.
-use Prim.Native.Nat.{ℕ, zero, suc, _+_, _*_, _≤_, _<_}
+use Prim.Native.Nat.{ℕ, zero, suc, _+_, _*_, _-_, _≤_, _<_}
 use mathlib.Core.Path.{_≡_}
 use mathlib.Core.Bool.{Bool, true, _&&_}
 use mathlib.Core.List.{List}
@@ -7,10 +7,10 @@ use lib.Dec.{eqb, ltb}
 use lib.ListN.{length, getD}
 use Rattle.model.specs.Limits.{roles, privileges}
 
--- of eight places the first n count, for each n up to eight
+-- from entry 8 - n on, of eight places the first n count
 pub record Counting (t : List ℕ) : Type 0 where
-  pub size : length t ≡ 72
-  pub each : (n j : ℕ) → n ≤ 8 → j < 8 → eqb (getD t (n * 8 + j) 0) 1 ≡ ltb j n
+  pub size : length t ≡ 16
+  pub each : (n j : ℕ) → n ≤ 8 → j < 8 → eqb (getD t (8 - n + j) 0) 1 ≡ ltb j n
 
 -- the limits of sixteen rights, which are a role and a privilege each
 pub record Limits (t : List ℕ) : Type 0 where

@@ -14,7 +14,12 @@ ghost use Rattle.model.specs.Sound.{conditionFits, ruleFits, kindFits, rightFit
 ghost use Rattle.table.specs.Entries.{entries, ruleAt, kindAt, withoutRights};
 ghost use Rattle.policy.specs.Lent.{lent, kindsOnly};
 ghost use Rattle.policy.specs.Counting.{Counting, Limits, keeps};
+use model::FACTS;
+use model::FIRST_KIND;
 use model::KIND_WIDTH;
+use model::MOST_KINDS;
+use model::MOST_RIGHTS;
+use model::MOST_RULES;
 use model::PRIVILEGES;
 use model::RIGHT_WIDTH;
 use model::ROLES;
@@ -37,12 +42,12 @@ pub fn all_zero(numbers: &[u16], from: usize, count: usize) -> bool
     joined == 0
 }
 
-// Where the conditions that are kinds end: 256 and as many more as there are kinds.
+// Where the conditions that are kinds of the policy end.
 fn end_of_kinds(kinds: &[u16]) -> u16
     requires { ⌜ length (now kinds) / 7 ≤ mostKinds ⌝ }
     ensures { λ r. ⌜ r ≡ 256 + length (now (kinds .entry)) / 7 ⌝ }
 {
-    (256 + kinds.len() / KIND_WIDTH) as u16
+    FIRST_KIND + (kinds.len() / KIND_WIDTH) as u16
 }
 
 // "0 to 255 a role; 256 to 383 certificate kind .., which must be a row of the kinds table; 384 to 447 environment fact ..; 448 and above
@@ -54,88 +59,15 @@ fn condition_fits(kinds: &[u16], c: u16) -> bool
     if c < end_of_kinds(kinds) {
         return true;
     }
-    c / 64 == 6
+    c / FACTS == 6
 }
 
-// Entry n * 8 + j is 1 if place j is one of the first n. What stands in a table needs no branch, so that the machine may judge eight
-// places in one step.
-fn counting() -> [u16; 72]
+// Eight places that count, and eight that do not: entry 8 - n + j is 1 if place j is one of the first n. What stands in a table needs no
+// branch, so that the machine may judge eight places in one step.
+fn counting() -> [u16; 16]
     ensures { λ r. ⌜ Counting r ⌝ }
 {
-    [
-        0,
-        0,
-        0,
-        0,
-        0,
-        0,
-        0,
-        0,
-        1,
-        0,
-        0,
-        0,
-        0,
-        0,
-        0,
-        0,
-        1,
-        1,
-        0,
-        0,
-        0,
-        0,
-        0,
-        0,
-        1,
-        1,
-        1,
-        0,
-        0,
-        0,
-        0,
-        0,
-        1,
-        1,
-        1,
-        1,
-        0,
-        0,
-        0,
-        0,
-        1,
-        1,
-        1,
-        1,
-        1,
-        0,
-        0,
-        0,
-        1,
-        1,
-        1,
-        1,
-        1,
-        1,
-        0,
-        0,
-        1,
-        1,
-        1,
-        1,
-        1,
-        1,
-        1,
-        0,
-        1,
-        1,
-        1,
-        1,
-        1,
-        1,
-        1,
-        1,
-    ]
+    [1, 1, 1, 1, 1, 1, 1, 1, 0, 0, 0, 0, 0, 0, 0, 0]
 }
 
 // 0 if nothing is wrong with the number: one that counts fits, and one past those is 0.
@@ -161,7 +93,7 @@ fn conditions_fit(kinds: &[u16], counting: &[u16], conditions: [u16; 8], n: usiz
     let mut j: usize = 0;
     while j < 8 {
         let c = conditions[j];
-        over = over | wrong(c, condition_fits(kinds, c), counting[n * 8 + j] == 1);
+        over = over | wrong(c, condition_fits(kinds, c), counting[8 - n + j] == 1);
         j += 1;
     }
     over == 0
@@ -214,7 +146,7 @@ fn roles_fit(counting: &[u16], prerequisites: [u16; 4], n: usize) -> bool
     let mut j: usize = 0;
     while j < 4 {
         let q = prerequisites[j];
-        over = over | wrong(q, q < ROLES, counting[n * 8 + j] == 1);
+        over = over | wrong(q, q < ROLES, counting[8 - n + j] == 1);
         j += 1;
     }
     over == 0
@@ -263,38 +195,38 @@ fn limits() -> [u16; 32]
     ensures { λ r. ⌜ Limits r ⌝ }
 {
     [
-        256,
-        1024,
-        256,
-        1024,
-        256,
-        1024,
-        256,
-        1024,
-        256,
-        1024,
-        256,
-        1024,
-        256,
-        1024,
-        256,
-        1024,
-        256,
-        1024,
-        256,
-        1024,
-        256,
-        1024,
-        256,
-        1024,
-        256,
-        1024,
-        256,
-        1024,
-        256,
-        1024,
-        256,
-        1024,
+        ROLES,
+        PRIVILEGES,
+        ROLES,
+        PRIVILEGES,
+        ROLES,
+        PRIVILEGES,
+        ROLES,
+        PRIVILEGES,
+        ROLES,
+        PRIVILEGES,
+        ROLES,
+        PRIVILEGES,
+        ROLES,
+        PRIVILEGES,
+        ROLES,
+        PRIVILEGES,
+        ROLES,
+        PRIVILEGES,
+        ROLES,
+        PRIVILEGES,
+        ROLES,
+        PRIVILEGES,
+        ROLES,
+        PRIVILEGES,
+        ROLES,
+        PRIVILEGES,
+        ROLES,
+        PRIVILEGES,
+        ROLES,
+        PRIVILEGES,
+        ROLES,
+        PRIVILEGES,
     ]
 }
 
@@ -359,13 +291,13 @@ pub fn policy_sound(rules: &[u16], kinds: &[u16], rights: &[u16]) -> bool
     if rights.len() % RIGHT_WIDTH != 0 {
         return false;
     }
-    if rules.len() / RULE_WIDTH > 512 {
+    if rules.len() / RULE_WIDTH > MOST_RULES {
         return false;
     }
-    if kinds.len() / KIND_WIDTH > 128 {
+    if kinds.len() / KIND_WIDTH > MOST_KINDS {
         return false;
     }
-    if rights.len() / RIGHT_WIDTH > 2048 {
+    if rights.len() / RIGHT_WIDTH > MOST_RIGHTS {
         return false;
     }
     let counting = counting();

@@ -79,7 +79,7 @@ module _ (t : Tables) (s : List ℕ) (h : Sound t s) (u : ℕ) where
   one-row q k z l = those-one q (rowCount s) (newest s u q (rowCount s)) (omega arith) refl (λ e. z (sym (newest-stays t s h u q k (rowCount s) z l (omega arith)) ∙ e)) ∙ ap (λ (n : ℕ). rowAt s (n - 1) ∷ []) (newest-stays t s h u q k (rowCount s) z l (omega arith))
 
   -- what it rests on stands in rows before it, and is a role
-  pub rests-before : (q k z : ℕ) → newest s u q k ≢ 0 → k ≤ rowCount s → List·Memᴰ z (restsOn policy (rowFor q k)) → newest s u z (newest s u q k - 1) ≢ 0
+  rests-before : (q k z : ℕ) → newest s u q k ≢ 0 → k ≤ rowCount s → List·Memᴰ z (restsOn policy (rowFor q k)) → newest s u z (newest s u q k - 1) ≢ 0
   rests-before q k z n l m e =
       true≢false
       (sym (is-true (active (firstRows s (newest s u q k - 1)) u z)
@@ -87,11 +87,11 @@ module _ (t : Tables) (s : List ℕ) (h : Sound t s) (u : ℕ) where
       (rests-on-active world (firstRows s (newest s u q k - 1)) (rowFor q k) (row-supported world (firstRows s (newest s u q k - 1)) (rowFor q k) (sound-row t s h (newest s u q k - 1) (omega (arith, newest-within s u q k, n)))) z m)))
       ∙ newest-active s u z (newest s u q k - 1) e)
 
-  pub is-role : (q k : ℕ) → newest s u q k ≢ 0 → k ≤ rowCount s → q < 256
+  is-role : (q k : ℕ) → newest s u q k ≢ 0 → k ≤ rowCount s → q < 256
   is-role q k z l = subst (λ (w : ℕ). w < 256) (isRow-role u q (rowFor q k) (row-for s u q k z)) (ltb→lt (rowFor q k .role) 256 (row-role world (firstRows s (newest s u q k - 1)) (rowFor q k) (sound-row t s h (newest s u q k - 1) (omega (arith, newest-within s u q k, z)))))
 
   -- a role is written, and then what its row rests on first
-  pub written-step : (most q k : ℕ) → newest s u q k ≢ 0 → k ≤ rowCount s → written policy rows u (suc most) q ≡ q ∷ onward t s u most (getD (restsOn policy (rowFor q k)) 0 256)
+  written-step : (most q k : ℕ) → newest s u q k ≢ 0 → k ≤ rowCount s → written policy rows u (suc most) q ≡ q ∷ onward t s u most (getD (restsOn policy (rowFor q k)) 0 256)
   written-step most q k z l =
       ap (λ (rs : List Row). q ∷ joined (λ (lower : ℕ). written policy rows u most lower) (take 1 (joined (restsOn policy) rs))) (one-row q k z l)
       ∙ ap (λ (ls : List ℕ). q ∷ joined (λ (lower : ℕ). written policy rows u most lower) (take 1 ls)) (append-nil (restsOn policy (rowFor q k)))

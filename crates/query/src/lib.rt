@@ -13,6 +13,7 @@ ghost use Rattle.inner.specs.Lent.{lent, Answers, AnswersWith};
 ghost use Rattle.rests.specs.Asked.{AskedThrough};
 ghost use Rattle.query.specs.Reached.{restReaches, Ready, Tells};
 use model::Answer;
+use model::FIRST_FACT;
 use model::PRIVILEGES;
 use model::ROLES;
 use model::ROW_COUNT;
@@ -67,7 +68,7 @@ fn is_asked(row: Row, user: u16, asked: &[bool]) -> bool
 fn roles_reach(
     rules: &[u16],
     kinds: &[u16],
-    having: &[bool; 256],
+    having: &[bool; ROLES as usize],
     state: &[u16],
     asked: &mut [bool],
     k: usize,
@@ -98,7 +99,7 @@ fn roles_reach(
 fn certificates_reach(
     rules: &[u16],
     kinds: &[u16],
-    having: &[bool; 256],
+    having: &[bool; ROLES as usize],
     state: &[u16],
     asked: &mut [bool],
     k: usize,
@@ -144,7 +145,7 @@ pub fn effective(
         return inner::refused(12);
     }
     let having = direct::roles_having(rights, privilege);
-    let mut asked = [false; 384];
+    let mut asked = [false; FIRST_FACT as usize];
     asked[table::wide(role)] = true;
     told(roles_reach(rules, kinds, &having, state, &mut asked, n, user))
 }

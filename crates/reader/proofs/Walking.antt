@@ -37,7 +37,7 @@ module _ (text : List ℕ) (at : ℕ) where
   unfolding nextAt recordEnd
   next-behind h = omega arith
 
-  pub records-from : at < length text → records (drop at text) ≡ recordAt text at ∷ records (drop (nextAt text at) text)
+  records-from : at < length text → records (drop at text) ≡ recordAt text at ∷ records (drop (nextAt text at) text)
   unfolding recordAt nextAt
   records-from h = records-next text at h ∙ ap (λ (l : List ℕ). part text at (recordEnd text at) ∷ records l) (drop-min text (recordEnd text at + 2))
 

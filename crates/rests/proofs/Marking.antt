@@ -34,7 +34,7 @@ module _ (a : List Bool) (w : ℕ) (l : w < length a) where
   pub mark-here : (q : ℕ) → w ≡ q → getD (set a w true) q false ≡ true
   mark-here q e = ap (λ (n : ℕ). getD (set a w true) n false) (sym e) ∙ getD-set-same a w true false l
 
-  pub mark-keeps : (q : ℕ) → getD a q false ≡ true → getD (set a w true) q false ≡ true
+  mark-keeps : (q : ℕ) → getD a q false ≡ true → getD (set a w true) q false ≡ true
   mark-keeps q h = go (eqb w q) refl
     where
       go : (b : Bool) → eqb w q ≡ b → getD (set a w true) q false ≡ true
@@ -50,14 +50,14 @@ module _ (a : List Bool) (w : ℕ) (l : w < length a) where
 
 module _ (kinds : List ℕ) where
   -- what was answered stays so
-  pub answered-keeps : (a b : List Bool) (c : ℕ) → ((q : ℕ) → getD a q false ≡ true → getD b q false ≡ true) → HasAsked kinds a c → HasAsked kinds b c
+  answered-keeps : (a b : List Bool) (c : ℕ) → ((q : ℕ) → getD a q false ≡ true → getD b q false ≡ true) → HasAsked kinds a c → HasAsked kinds b c
   answered-keeps a b c k h q l m = k q (h q l m)
 
   pub grown-none : (a : List Bool) (cs : List ℕ) (n : ℕ) → AskedThrough kinds a → Grown kinds a a cs n
   grown-none a cs n h = record { size = refl; closed = h; keeps = λ c e. e; only = λ q l e. inl e }
 
   -- a role is marked
-  pub role-asked : (a : List Bool) (c w : ℕ) → length a ≡ 384 → w ≡ c → c < 256 → AskedThrough kinds a → ConditionAsked kinds a (set a w true) c
+  role-asked : (a : List Bool) (c w : ℕ) → length a ≡ 384 → w ≡ c → c < 256 → AskedThrough kinds a → ConditionAsked kinds a (set a w true) c
   role-asked a c w size e l h =
       record {
         grown = record { size = length-set a w true; closed = closed; keeps = mark-keeps a w inside; only = λ q k m. only q (mark-only a w inside q m) };
@@ -79,10 +79,10 @@ module _ (kinds : List ℕ) where
       only q (inr z) = inl z
 
   -- a condition that asks for nothing more
-  pub nothing-added : (a : List Bool) (c : ℕ) → AskedThrough kinds a → HasAsked kinds a c → ConditionAsked kinds a a c
+  nothing-added : (a : List Bool) (c : ℕ) → AskedThrough kinds a → HasAsked kinds a c → ConditionAsked kinds a a c
   nothing-added a c h k = record { grown = grown-none a (c ∷ []) 1 h; answered = k }
 
-  pub fact-answered : (a : List Bool) (c : ℕ) → 384 ≤ c → HasAsked kinds a c
+  fact-answered : (a : List Bool) (c : ℕ) → 384 ≤ c → HasAsked kinds a c
   fact-answered a c l q k m = absurd (List·Memᴰ·not-nil (subst⁻¹ (List·Memᴰ q) (asked-none kinds c l) m))
 
   -- ── condition by condition ──

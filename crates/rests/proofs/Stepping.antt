@@ -28,7 +28,7 @@ module _ {A : Type 0} where
   head-taken (suc n) (x ∷ l) whole d e t h k = subst (λ (w : List A). (0 < length w) × (getD w 0 d ≡ x)) t (omega arith, refl)
 
 module _ {A B : Type 0} (f : A → List B) where
-  pub joined-append : (xs ys : List A) → joined f (xs ++ ys) ≡ joined f xs ++ joined f ys
+  joined-append : (xs ys : List A) → joined f (xs ++ ys) ≡ joined f xs ++ joined f ys
   joined-append [] ys = refl
   joined-append (x ∷ xs) ys = ap (λ (l : List B). f x ++ l) (joined-append xs ys) ∙ sym (append-assoc (f x) (joined f xs) (joined f ys))
 

@@ -10,6 +10,8 @@ ghost use Rattle.model.specs.Conditions.{meant, membership, ruleNumbered, roles
 ghost use Rattle.table.specs.Entries.{withoutRights};
 ghost use Rattle.rests.specs.Newest.{newest};
 ghost use Rattle.rests.specs.Asked.{AskedThrough, Known, ConditionAsked, RowAsked};
+use model::FIRST_FACT;
+use model::FIRST_KIND;
 use model::ROLES;
 use model::Row;
 
@@ -24,14 +26,14 @@ pub fn roles_asked(kinds: &[u16], condition: u16) -> Asked
     ensures few { λ r. ⌜ r .count ≤ 4 ⌝ }
     ensures asked { λ r. ⌜ take (r .count) (r .roles) ≡ rolesAsked (policyOf (withoutRights [] (now (kinds .entry)))) (meant condition) ⌝ }
 {
-    if condition < 256 {
+    if condition < FIRST_KIND {
         return Asked {
             count: 1,
             roles: [condition, 0, 0, 0],
         };
     }
-    if condition < 384 {
-        let row = table::kind_numbered(kinds, table::wide(condition - 256));
+    if condition < FIRST_FACT {
+        let row = table::kind_numbered(kinds, table::wide(condition - FIRST_KIND));
         let roles = row.prerequisites;
         let count = table::least(table::wide(row.s), 4);
         return Asked { count, roles };
@@ -58,7 +60,7 @@ pub fn membership_of(rules: &[u16], row: Row) -> Membership
     Membership { count, conditions }
 }
 
-// The first role that the row rests on, or 256 where it rests on none.
+// The first role that the row rests on, or `ROLES` where it rests on none.
 pub fn next_role(rules: &[u16], kinds: &[u16], row: Row) -> u16
     ensures { λ r. ⌜ r ≡ getD (restsOn (policyOf (withoutRights (now (rules .entry)) (now (kinds .entry)))) row) 0 roles ⌝ }
 {
@@ -98,11 +100,11 @@ fn ask_known(c: u16, asked: &mut [bool]) -> bool
     requires { ⌜ length (now asked) ≡ 384 ⌝ }
     ensures { λ r. ⌜ Known (now (asked .entry)) (now (asked .exit)) c r ⌝ }
 {
-    if c < 256 {
+    if c < FIRST_KIND {
         asked[table::wide(c)] = true;
         return true;
     }
-    if c < 384 {
+    if c < FIRST_FACT {
         return asked[table::wide(c)];
     }
     true

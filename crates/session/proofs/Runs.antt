@@ -28,7 +28,7 @@ use Rattle.writer.proofs.Records.{event-length}
 use Rattle.inner.specs.Lent.{Answers}
 use Rattle.load.specs.Rows.{running, linesFrom}
 use Rattle.load.proofs.Machines.{bad-is, event-not-bad, policy-after-event, unknown-bad, bad-written, event-taken, some}
-use Rattle.event.specs.Answerable.{Answerable}
+use Rattle.event.specs.SoundIf.{SoundIf}
 use Rattle.session.specs.Output.{Holds}
 
 -- ── lines ──
@@ -61,24 +61,24 @@ event-behind text at h a b =
 
 -- ── the invariant ──
 
-pub record Runs (t : Tables) (text : List ℕ) (from taken : ℕ) (s₀ : List ℕ) (judged : Bool) (at n w : ℕ) (s out : List ℕ) : Type 0 where
+pub record Runs (t : Tables) (text : List ℕ) (from taken : ℕ) (s₀ : List ℕ) (sound-policy : Bool) (at n w : ℕ) (s out : List ℕ) : Type 0 where
   pub in-text : at ≤ length text
   pub few : n ≤ at
   pub room : w ≤ 2 * at
   pub fits : 2 * length text + 16 ≤ length out
-  pub answerable : Answerable t s judged
+  pub sound-if : SoundIf t s sound-policy
   pub so-far : steps (running t s₀ taken []) (linesFrom text from) .written ≡ steps (running t s n (take w out)) (linesFrom text at) .written
 
-pub runs-start : (t : Tables) (text : List ℕ) (from taken : ℕ) (s : List ℕ) (judged : Bool) (out : List ℕ) → T (sound (policyOf t) s) → judged ≡ soundPolicy t → from ≤ length text → taken ≤ from → 2 * length text + 16 ≤ length out → Runs t text from taken s judged from taken 0 s out
-runs-start t text from taken s judged out h j a b c = record { in-text = a; few = b; room = omega arith; fits = c; answerable = record { policy = j; state = h }; so-far = refl }
+pub runs-start : (t : Tables) (text : List ℕ) (from taken : ℕ) (s : List ℕ) (sound-policy : Bool) (out : List ℕ) → T (sound (policyOf t) s) → sound-policy ≡ soundPolicy t → from ≤ length text → taken ≤ from → 2 * length text + 16 ≤ length out → Runs t text from taken s sound-policy from taken 0 s out
+runs-start t text from taken s sound-policy out h j a b c = record { in-text = a; few = b; room = omega arith; fits = c; sound-if = record { policy = j; state = h }; so-far = refl }
 
-module _ (t : Tables) (text : List ℕ) (from taken : ℕ) (s₀ : List ℕ) (judged : Bool) (at n w : ℕ) (s out : List ℕ) (g : Runs t text from taken s₀ judged at n w s out) where
+module _ (t : Tables) (text : List ℕ) (from taken : ℕ) (s₀ : List ℕ) (sound-policy : Bool) (at n w : ℕ) (s out : List ℕ) (g : Runs t text from taken s₀ sound-policy at n w s out) where
   abbrev here : Machine
   here = running t s n (take w out)
 
   -- an event is answered
   pub runs-on : (line : Line) (next : ℕ) (r : Answer) (s′ out′ : List ℕ) (w′ : ℕ) → at < length text → line ≡ lineAt text at → next ≡ nextAt text at → 3 ≤ line .word → line .word < 11 → r .code < 65536 → r .second < 65536
-      → Answers t s (lineCall line) r s′ → T (sound (policyOf t) s′) → Wrote out out′ w (answerRecord (r .code) (r .second)) w′ → Runs t text from taken s₀ judged next (n + 1) w′ s′ out′
+      → Answers t s (lineCall line) r s′ → T (sound (policyOf t) s′) → Wrote out out′ w (answerRecord (r .code) (r .second)) w′ → Runs t text from taken s₀ sound-policy next (n + 1) w′ s′ out′
   unfolding afterEvent
   runs-on line next r s′ out′ w′ h e f a b c₁ c₂ k v o =
       let far : at + 7 ≤ next = subst⁻¹ (λ (x : ℕ). at + 7 ≤ x) f (event-behind text at h (subst⁻¹ (λ (l : Line). 3 ≤ l .word) (sym e) a) (subst⁻¹ (λ (l : Line). l .word < 11) (sym e) b)) in
@@ -87,7 +87,7 @@ module _ (t : Tables) (text : List ℕ) (from taken : ℕ) (s₀ : List ℕ) (ju
         few = omega (arith, g .few, far);
         room = omega (arith, g .room, o .place, answer-short (r .code) (r .second) c₁ c₂, far);
         fits = omega (arith, g .fits, o .size);
-        answerable = record { policy = g .answerable .policy; state = v };
+        sound-if = record { policy = g .sound-if .policy; state = v };
         so-far =
             g .so-far
             ∙ ap (λ (ls : List Line). steps here ls .written) (lines-from text at h)

@@ -10,8 +10,12 @@ ghost use Rattle.inner.specs.Lent.{lent};
 ghost use Rattle.load.specs.Rows.{linesFrom, running};
 ghost use Rattle.session.specs.Output.{Holds};
 use model::KIND_WIDTH;
+use model::MOST_KINDS;
+use model::MOST_RIGHTS;
+use model::MOST_RULES;
 use model::RIGHT_WIDTH;
 use model::RULE_WIDTH;
+use model::STATE_SIZE;
 use program::WORDS;
 
 const POLICY_WORDS: u16 = 3;
@@ -33,7 +37,7 @@ fn run(
     requires { ⌜ T (sound (policyOf (lent (now rules) (now kinds) (now rights))) (now state)) × (from ≤ length (now text)) × (taken ≤ from) × (length (now text) ≤ mostBytes) × (2 * length (now text) + 16 ≤ length (now out)) ⌝ }
     ensures { λ r. ⌜ Holds (now (out .exit)) r (steps (running (lent (now (rules .entry)) (now (kinds .entry)) (now (rights .entry))) (now (state .entry)) taken []) (linesFrom (now (text .entry)) from) .written) ⌝ }
 {
-    let judged = policy::policy_sound(rules, kinds, rights);
+    let sound_policy = policy::policy_sound(rules, kinds, rights);
     let mut at = from;
     let mut n = taken;
     let mut w: usize = 0;
@@ -46,7 +50,7 @@ fn run(
         if WORDS <= line.word {
             return writer::write_bad(out, w, n);
         }
-        let answer = event::answer_event(rules, kinds, rights, judged, state, line);
+        let answer = event::answer_event(rules, kinds, rights, sound_policy, state, line);
         w = writer::write_answer(out, w, answer);
         at = reader::next_from(text, at);
     }
@@ -62,14 +66,14 @@ pub fn session(text: &[u8], out: &mut [u8]) -> usize
     if MOST_BYTES < text.len() {
         return writer::write_bad(out, 0, 0);
     }
-    let mut rules = [0u16; 5632];
-    let mut kinds = [0u16; 896];
-    let mut rights = [0u16; 4096];
+    let mut rules = [0u16; MOST_RULES * RULE_WIDTH];
+    let mut kinds = [0u16; MOST_KINDS * KIND_WIDTH];
+    let mut rights = [0u16; MOST_RIGHTS * RIGHT_WIDTH];
     let loaded = load::load(text, &mut rules, &mut kinds, &mut rights);
     let a = loaded.rules * RULE_WIDTH;
     let b = loaded.kinds * KIND_WIDTH;
     let c = loaded.rights * RIGHT_WIDTH;
-    let mut state = [0u16; 1602];
+    let mut state = [0u16; STATE_SIZE];
     run(
         &rules[..a],
         &kinds[..b],

@@ -63,10 +63,10 @@ rows-more s k = entries-next rowFrom 3 (rowNumbers s) k
 -- ── a loop that looks for an element that fails, over a list by its places ──
 
 module _ {A : Type 0} (test : A → Bool) where
-  pub all-last : (xs : List A) (x : A) → all test xs ≡ true → test x ≡ true → all test (xs ++ (x ∷ [])) ≡ true
+  all-last : (xs : List A) (x : A) → all test xs ≡ true → test x ≡ true → all test (xs ++ (x ∷ [])) ≡ true
   all-last xs x a b = all-append test xs (x ∷ []) ∙ (λ i. a i && (b i && true))
 
-  pub all-spoilt : (xs : List A) (x : A) → List·Memᴰ x xs → test x ≡ false → all test xs ≡ false
+  all-spoilt : (xs : List A) (x : A) → List·Memᴰ x xs → test x ≡ false → all test xs ≡ false
   all-spoilt xs x m e = go (all test xs) refl
     where
       go : (b : Bool) → all test xs ≡ b → all test xs ≡ false
@@ -147,7 +147,7 @@ module _ (l : List ℕ) (i : ℕ) where
   right-places = λ j. record { role = first-number l (i * 2) 2 (omega arith) j; privilege = row-number l (i * 2) 2 1 (omega arith) j }
 
 -- number k of entry i of a table of 256 rows of 3 that stands at a place of the state
-pub table-number : (s : List ℕ) (place i k : ℕ) → i < 256 → k < 3 → getD (take 3 (drop (i * 3) (take 768 (drop place s)))) k 0 ≡ getD s (i * 3 + place + k) 0
+table-number : (s : List ℕ) (place i k : ℕ) → i < 256 → k < 3 → getD (take 3 (drop (i * 3) (take 768 (drop place s)))) k 0 ≡ getD s (i * 3 + place + k) 0
 table-number s place i k h m =
     let e : place + (i * 3 + k) ≡ i * 3 + place + k = omega arith in
     row-number (take 768 (drop place s)) (i * 3) 3 k m ∙ getD-take 768 (drop place s) (i * 3 + k) 0 (omega arith) ∙ getD-drop place s (i * 3 + k) 0 ∙ ap (λ (p : ℕ). getD s p 0) e

@@ -15,7 +15,7 @@ use Rattle.model.specs.declared.Row.{Row}
 use Rattle.model.specs.declared.Kind.{Kind}
 use Rattle.model.proofs.Tests.{lt-or-ge}
 
-pub holds-same : (p₁ p₂ : Policy) (t : State) → p₁ .kinds ≡ p₂ .kinds → (rows : List Row) (u : ℕ) (c : Condition) → holds (worldOf p₁ t) rows u c ≡ holds (worldOf p₂ t) rows u c
+holds-same : (p₁ p₂ : Policy) (t : State) → p₁ .kinds ≡ p₂ .kinds → (rows : List Row) (u : ℕ) (c : Condition) → holds (worldOf p₁ t) rows u c ≡ holds (worldOf p₂ t) rows u c
 unfolding holds
 holds-same p₁ p₂ t e rows u (role q) = refl
 holds-same p₁ p₂ t e rows u (kind k) = ap (λ (ks : List Kind). someStands (t .certificates) u k && all (active rows u) (prerequisiteRoles (getD ks k noKind))) e

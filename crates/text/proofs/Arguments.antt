@@ -31,7 +31,7 @@ pub taken-none : (fields : List (List ℕ)) → Taken fields fields 0 (replicate
 taken-none fields = record { read = []; whole = refl; good = refl; counted = refl; kept = refl }
 
 -- what a field's number says of the field
-pub is-number : (f : List ℕ) (v : ℕ) → numberOf f ≡ Value v → (isNumber f ≡ true) × (valueOf f ≡ v)
+is-number : (f : List ℕ) (v : ℕ) → numberOf f ≡ Value v → (isNumber f ≡ true) × (valueOf f ≡ v)
 unfolding numberOf
 is-number f v e = go (isNumber f) refl e
   where
@@ -39,7 +39,7 @@ is-number f v e = go (isNumber f) refl e
     go true p q = (p, (cc))
     go false p q = absurd (let z : _≡_ {A = ℕ} 0 1 = cc in omega arith)
 
-pub is-not : (f : List ℕ) → numberOf f ≡ Not → isNumber f ≡ false
+is-not : (f : List ℕ) → numberOf f ≡ Not → isNumber f ≡ false
 unfolding numberOf
 is-not f e = go (isNumber f) refl e
   where
@@ -59,7 +59,7 @@ filled-more xs v h =
     ∙ ap (λ (k : ℕ). (xs ++ (v ∷ [])) ++ replicate k 0) q
 
 module _ (fields : List (List ℕ)) (f : List ℕ) (later : List (List ℕ)) (count : ℕ) (numbers : List ℕ) (t : Taken fields (f ∷ later) count numbers) where
-  pub taken-more : (v : ℕ) → count < mostNumbers → numberOf f ≡ Value v → Taken fields later (count + 1) (set numbers count v)
+  taken-more : (v : ℕ) → count < mostNumbers → numberOf f ≡ Value v → Taken fields later (count + 1) (set numbers count v)
   taken-more v h e =
       let done : List (List ℕ) = t .read in
       let size : length (map valueOf done) ≡ count = length-map done valueOf ∙ t .counted in
@@ -122,7 +122,7 @@ module _ (word : ℕ) (fields : List (List ℕ)) where
       go a b c p q d r = rw (r, ← p, ← q) (ap (λ (v : Bool). cond v line unknown) (ap (λ (v : Bool). a && (b && v)) (and-true c) ∙ sym (and-assoc a b c)))
 
   module _ (known : word < words) where
-    pub wrong-count : (leb (numbered word .least) (length fields) && leb (length fields) (numbered word .greatest)) ≡ false → unknown ≡ lineFrom word fields
+    wrong-count : (leb (numbered word .least) (length fields) && leb (length fields) (numbered word .greatest)) ≡ false → unknown ≡ lineFrom word fields
     wrong-count p = sym (line-by false (all isNumber fields) p refl known)
 
     pub too-many : mostNumbers < length fields → unknown ≡ lineFrom word fields

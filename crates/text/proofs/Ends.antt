@@ -43,7 +43,7 @@ module _ (test : List ℕ → Bool) where
       go ih true = omega arith
       go ih false = omega arith
 
-  pub end-within : (s : List ℕ) (i end : ℕ) → end ≡ endFrom test s i → i ≤ length s → Within s i end
+  end-within : (s : List ℕ) (i end : ℕ) → end ≡ endFrom test s i → i ≤ length s → Within s i end
   end-within s i end e h = let l = before-le (drop i s) in record { ordered = omega arith; inside = omega (arith, l, length-drop i s) }
 
   pub end-past : (s : List ℕ) (i : ℕ) → i ≤ length s → length s ≤ i → endFrom test s i ≡ i

@@ -1,7 +1,7 @@
 use mathlib.Core.Path.{refl, sym, _∙_}
 use borrow.Author.Tests.{not-true, not-false}
 use Rattle.inner.specs.Lent.{lent}
-use Rattle.event.proofs.Events.{malformed-answers, keeps-sound, answerable-sound}
+use Rattle.event.proofs.Events.{malformed-answers, keeps-sound, both-sound}
 use borrow.Author.Needs.{needs}
 use Rattle.event.proofs.answer_event.Statement.{statement}
 use Rattle.event.proofs.answer_event.Tie as tie
@@ -10,7 +10,7 @@ returns : tie.Need-returns
 returns c = (malformed-answers (lent (c .before .before .before .before .before .args .rules .now) (c .before .before .before .before .before .args .kinds .now) (c .before .before .before .before .before .args .rights .now)) (c .before .before .before .before .before .args .state .now) (c .before .before .before .before .before .args .line) (c .before .before .before .before .before .pre .1) (c .before .before .before .before .before .pre .2) (sym (c .before .before .before .before .before .pre .0 .policy) ∙ not-true _ (c .if1 .taken)) _ refl refl, c .before .before .before .before .before .pre .0 .state)
 
 call-requires : tie.Need-call-requires
-call-requires c κs = (answerable-sound (lent (c .before .before .before .before .before .before .args .rules .now) (c .before .before .before .before .before .before .args .kinds .now) (c .before .before .before .before .before .before .args .rights .now)) (c .before .before .before .before .before .before .args .state .now) (c .before .before .before .before .before .before .args .judged) (c .before .before .before .before .before .before .pre .0) (not-false _ (c .before .if1 .left)), c .before .before .before .before .before .before .pre .1, c .before .before .before .before .before .before .pre .2)
+call-requires c κs = (both-sound (lent (c .before .before .before .before .before .before .args .rules .now) (c .before .before .before .before .before .before .args .kinds .now) (c .before .before .before .before .before .before .args .rights .now)) (c .before .before .before .before .before .before .args .state .now) (c .before .before .before .before .before .before .args .sound-policy) (c .before .before .before .before .before .before .pre .0) (not-false _ (c .before .if1 .left)), c .before .before .before .before .before .before .pre .1, c .before .before .before .before .before .before .pre .2)
 
 same-length : tie.Need-same-length
 same-length c = search needs

@@ -38,14 +38,14 @@ array-read-c c = search needs
 condition-fits-requires : tie.Need-condition-fits-requires Inv-loop μ-loop
 condition-fits-requires c κs = search needs
 
-mul-wrong : tie.Need-mul-wrong Inv-loop μ-loop
-mul-wrong c = search needs
+sub-wrong : tie.Need-sub-wrong Inv-loop μ-loop
+sub-wrong c = search needs
 
 add-wrong : tie.Need-add-wrong Inv-loop μ-loop
 add-wrong c = search needs
 
-mul-wrong-2 : tie.Need-mul-wrong-2 Inv-loop μ-loop
-mul-wrong-2 c = search needs
+mul-wrong : tie.Need-mul-wrong Inv-loop μ-loop
+mul-wrong c = search needs
 
 shared-slice-read-wrong : tie.Need-shared-slice-read-wrong Inv-loop μ-loop
 shared-slice-read-wrong c = omega (arith, c .before .before .before .before .before .before .pre .1 .size)
@@ -78,9 +78,9 @@ conditions-fit-spec =
     mul-c
     array-read-c
     condition-fits-requires
-    mul-wrong
+    sub-wrong
     add-wrong
-    mul-wrong-2
+    mul-wrong
     shared-slice-read-wrong
     wrong-requires
     add-j

@@ -31,14 +31,14 @@ mul-q c = search needs
 array-read-q : tie.Need-array-read-q Inv-loop μ-loop
 array-read-q c = search needs
 
-mul-wrong : tie.Need-mul-wrong Inv-loop μ-loop
-mul-wrong c = search needs
+sub-wrong : tie.Need-sub-wrong Inv-loop μ-loop
+sub-wrong c = search needs
 
 add-wrong : tie.Need-add-wrong Inv-loop μ-loop
 add-wrong c = search needs
 
-mul-wrong-2 : tie.Need-mul-wrong-2 Inv-loop μ-loop
-mul-wrong-2 c = search needs
+mul-wrong : tie.Need-mul-wrong Inv-loop μ-loop
+mul-wrong c = search needs
 
 shared-slice-read-wrong : tie.Need-shared-slice-read-wrong Inv-loop μ-loop
 shared-slice-read-wrong c = omega (arith, c .before .before .before .before .pre .0 .size)
@@ -70,9 +70,9 @@ roles-fit-spec =
     loop-holds
     mul-q
     array-read-q
-    mul-wrong
+    sub-wrong
     add-wrong
-    mul-wrong-2
+    mul-wrong
     shared-slice-read-wrong
     wrong-requires
     add-j

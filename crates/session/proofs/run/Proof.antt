@@ -11,10 +11,10 @@ use Rattle.session.proofs.run.Statement.{statement}
 use Rattle.session.proofs.run.Tie as tie
 
 abbrev Inv-loop : tie.InvT-loop
-Inv-loop rules kinds rights text from taken state₀ out₀ judged at₀ n₀ w₀ state out at n w = Runs (lent rules kinds rights) text from taken state₀ judged at n w state out × (length out ≡ length out₀) × (length state ≡ length state₀)
+Inv-loop rules kinds rights text from taken state₀ out₀ sound-policy at₀ n₀ w₀ state out at n w = Runs (lent rules kinds rights) text from taken state₀ sound-policy at n w state out × (length out ≡ length out₀) × (length state ≡ length state₀)
 
 abbrev μ-loop : tie.MeasureT-loop
-μ-loop rules kinds rights text from taken state₀ out₀ judged at₀ n₀ w₀ state out at n w = length text - at
+μ-loop rules kinds rights text from taken state₀ out₀ sound-policy at₀ n₀ w₀ state out at n w = length text - at
 
 policy-sound-requires : tie.Need-policy-sound-requires Inv-loop μ-loop
 policy-sound-requires c κs = search needs
@@ -53,7 +53,7 @@ returns-2 : tie.Need-returns-2 Inv-loop μ-loop
 returns-2 c = runs-bad (lent (c .before .before .before .before .before .before .before .before .before .before .before .before .before .before .before .before .before .before .args .rules .now) (c .before .before .before .before .before .before .before .before .before .before .before .before .before .before .before .before .before .before .args .kinds .now) (c .before .before .before .before .before .before .before .before .before .before .before .before .before .before .before .before .before .before .args .rights .now)) (c .before .before .before .before .before .before .before .before .before .before .before .before .before .before .before .before .before .before .args .text .now) (c .before .before .before .before .before .before .before .before .before .before .before .before .before .before .before .before .before .before .args .from) (c .before .before .before .before .before .before .before .before .before .before .before .before .before .before .before .before .before .before .args .taken) (c .before .before .before .before .before .before .before .before .before .before .before .before .before .before .before .before .before .before .args .state .now) (c .before .before .before .before .before .before .before .before .before .before .before .policy-sound .result) (c .before .before .before .before .before .before .before .before .before .before .loop .at) (c .before .before .before .before .before .before .before .before .before .before .loop .n) (c .before .before .before .before .before .before .before .before .before .before .loop .w) (c .before .before .before .before .before .before .before .before .before .before .loop .state) (c .before .before .before .before .before .before .before .before .before .before .loop .out) (c .before .before .before .before .before .before .before .before .before .before .loop .inv .0) (c .before .before .before .before .before .before .before .before .line-from .result) _ (c .before .before .write-bad2 .result) (c .before .before .before .before .before .before .before .before .before .loop-test .taken) (c .before .before .before .before .before .before .before .before .before .before .before .before .before .before .before .before .before .before .pre .3) (c .before .before .before .before .before .before .before .before .line-from .ensures) .1 (omega (arith, c .before .before .before .before .if2 .taken)) (c .before .before .write-bad2 .ensures)
 
 answer-event-requires : tie.Need-answer-event-requires Inv-loop μ-loop
-answer-event-requires c κs = (c .before .before .before .before .before .before .before .loop .inv .0 .answerable, omega arith, omega arith)
+answer-event-requires c κs = (c .before .before .before .before .before .before .before .loop .inv .0 .sound-if, omega arith, omega arith)
 
 write-answer-requires : tie.Need-write-answer-requires Inv-loop μ-loop
 write-answer-requires c κs = omega (arith, c .before .before .before .before .before .before .before .before .before .before .before .loop .inv .0 .room, c .before .before .before .before .before .before .before .before .before .before .before .loop .inv .0 .fits)

@@ -8,7 +8,7 @@ use Rattle.model.specs.Records.{Tables}
 use Rattle.model.specs.Layout.{policyOf}
 use Rattle.model.specs.Sound.{soundPolicy, sound}
 
--- `judged` is what judging the policy has said, true for a sound one; and the state is sound under the policy
-pub record Answerable (t : Tables) (s : List ℕ) (judged : Bool) : Type 0 where
-  pub policy : judged ≡ soundPolicy t
+-- `sound-policy` says whether the policy is sound, and the state is sound under the policy: both are sound if it says so
+pub record SoundIf (t : Tables) (s : List ℕ) (sound-policy : Bool) : Type 0 where
+  pub policy : sound-policy ≡ soundPolicy t
   pub state : T (sound (policyOf t) s)
