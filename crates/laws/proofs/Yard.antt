@@ -1,5 +1,6 @@
 -- A yard in which the laws bite: a sound policy and a sound state with a cascade of five layers, one of them through a certificate's
--- prerequisite role. It meets the premises of each law, and each law is instantiated at it, so that none is empty.
+-- prerequisite role. It meets the premises of each law, and each law is instantiated at it, so that none is empty. Its numbers are its
+-- own: the yard of the handbook and of the terminals is a smaller policy.
 use Prim.Native.Nat.{ℕ, _+_, _<_}
 use mathlib.Core.Path.{_≡_, refl, _∙_}
 use mathlib.Core.Bool.{not}
