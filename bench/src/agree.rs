@@ -1,7 +1,7 @@
 //! The baselines and the border agree on many calls, on sound tables and on spoilt ones.
 
 use crate::call::{indexed, ours, plain, unjudged, Call, Side};
-use crate::scene::{Scene, CERTIFICATES, FULL, MIDDLE, ROWS};
+use crate::scene::{Scene, CERTIFICATE_COUNT, FULL, MIDDLE, ROW_COUNT};
 use adobethrum::LIST;
 
 /// Numbers that look random, the same ones in every run.
@@ -54,7 +54,7 @@ impl Numbers {
 
     /// A call about a row or a certificate that stands, where there is one.
     fn call_about(&mut self, state: &[u16]) -> Call {
-        let [[user, role, _], [appointee, kind, appointer]] = [ROWS, CERTIFICATES].map(|count| self.row(state, count));
+        let [[user, role, _], [appointee, kind, appointer]] = [ROW_COUNT, CERTIFICATE_COUNT].map(|count| self.row(state, count));
         match self.below(10) {
             0 => Call::Activate(user, role),
             1 => Call::Activate(user, self.role()),
@@ -88,7 +88,7 @@ impl Numbers {
             0 => drop(table.pop()),
             1 => table.push(0),
             2..5 if which > 2 => {
-                let count = [ROWS, CERTIFICATES][self.below(2)];
+                let count = [ROW_COUNT, CERTIFICATE_COUNT][self.below(2)];
                 let (row, at) = (self.row(table, count), count + 1 + 3 * self.below(256));
                 table[at..at + 3].copy_from_slice(&row);
             }
@@ -173,7 +173,7 @@ fn many_users() {
     assert_eq!(all(Call::Activate(4095, 1), &scene, &mut state, &mut []), 6);
     assert_eq!(all(Call::Appoint(16, 1, 0), &scene, &mut state, &mut []), 6);
     assert_eq!(all(Call::Revoke(16, 4095, 0, 0), &scene, &mut state, &mut []), 0);
-    scene.state[CERTIFICATES + 1 + 3 * 255..][..3].copy_from_slice(&[4095, 0, 0]);
+    scene.state[CERTIFICATE_COUNT + 1 + 3 * 255..][..3].copy_from_slice(&[4095, 0, 0]);
     assert_eq!(all(Call::Logout(0), &scene, &mut scene.state.clone(), &mut []), 2);
 }
 

@@ -2,7 +2,7 @@
 
 use crate::call::Call::{self, *};
 use crate::case::{Again, Case};
-use crate::scene::{Scene, Size, FULL, LAST_PRIVILEGE, LATE_USER, MIDDLE, NO_PRIVILEGE};
+use crate::scene::{Scene, Size, FULL, LAST_PRIVILEGE, LATE_USER, MIDDLE, NO_PRIVILEGE, ROW_COUNT};
 
 fn case(name: &str, tables: &str, scene: &Scene, calls: &[(Call, u16, u16)]) -> Case {
     Case { name: name.into(), tables: tables.into(), scene: scene.clone(), calls: calls.to_vec(), again: Again::AsItWas }
@@ -31,7 +31,7 @@ fn on_workshop(scene: &Scene, size: &Size, tables: &str, falling: u16) -> Vec<Ca
     let mut malformed = scene.clone();
     *malformed.rights.last_mut().expect("there are rights") = 1024;
     let mut unsound = scene.clone();
-    unsound.state[64 + 3 * scene.state[64] as usize] = 0;
+    unsound.state[ROW_COUNT + 3 * scene.state[ROW_COUNT] as usize] = 0;
     let on = |scene: &Scene, name: &str, calls: &[(Call, u16, u16)]| case(name, tables, scene, calls);
     let case = |name: &str, calls: &[(Call, u16, u16)]| on(scene, name, calls);
     let falls = case(&format!("environment, fells {falling}"), &[(Environment(0, 0), 0, falling)]);

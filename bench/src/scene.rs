@@ -4,8 +4,8 @@ use crate::call::{Call, SIDES};
 use adobethrum::{Policy, LIST, STATE};
 
 /// Where the counts of active rows and of certificates stand in a state.
-pub const ROWS: usize = 64;
-pub const CERTIFICATES: usize = 833;
+pub const ROW_COUNT: usize = 64;
+pub const CERTIFICATE_COUNT: usize = 833;
 
 /// A privilege that only the last right gives, and one that none gives.
 pub const LAST_PRIVILEGE: u16 = 1001;
@@ -147,7 +147,7 @@ impl Scene {
     /// The scene with only so many active rows, and so many certificates.
     pub fn cut(&self, rows: usize) -> Scene {
         let mut scene = self.clone();
-        for count in [ROWS, CERTIFICATES] {
+        for count in [ROW_COUNT, CERTIFICATE_COUNT] {
             scene.state[count] = rows as u16;
             scene.state[count + 1 + 3 * rows..count + 1 + 3 * 256].fill(0);
         }

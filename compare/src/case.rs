@@ -7,8 +7,8 @@ pub const FACTS: usize = 64;
 pub const STATE: usize = 1_602;
 pub const LIST: usize = 256;
 /// Where the counts of active rows and of certificates stand in a state.
-pub const ROWS_AT: usize = 64;
-pub const CERTIFICATES_AT: usize = 833;
+pub const ROW_COUNT: usize = 64;
+pub const CERTIFICATE_COUNT: usize = 833;
 
 #[derive(Clone, Copy, Debug, PartialEq, Eq)]
 pub enum Name {
@@ -123,9 +123,9 @@ pub fn rows_after(state: &[u16], count_at: usize) -> &[[u16; 3]] {
 }
 
 pub fn active_rows(state: &[u16]) -> &[[u16; 3]] {
-    rows_after(state, ROWS_AT)
+    rows_after(state, ROW_COUNT)
 }
 
 pub fn certificates(state: &[u16]) -> &[[u16; 3]] {
-    rows_after(state, CERTIFICATES_AT)
+    rows_after(state, CERTIFICATE_COUNT)
 }

@@ -133,7 +133,7 @@ pub fn damage_state(random: &mut Random, case: &mut Case) {
     if state.len() != STATE {
         return length(random, state);
     }
-    let count_at = random.pick(&[ROWS_AT, CERTIFICATES_AT]);
+    let count_at = random.pick(&[ROW_COUNT, CERTIFICATE_COUNT]);
     match random.weighted(&[3, 3, 4, 8, 4, 4, 3, 3, 2, 1]) {
         0 => state[random.below(FACTS)] = random.pick(&[0, 1, 2, 3, 65_535]),
         1 => facts_gone(random, state),

@@ -51,15 +51,15 @@ impl Shrinker {
         self.cut(|case| case.tables.rule_count(), cut_rules);
         self.cut(|case| case.tables.kind_count(), cut_kinds);
         self.cut(
-            |case| rows_after(&case.state, ROWS_AT).len(),
+            |case| rows_after(&case.state, ROW_COUNT).len(),
             |case, from, to| {
-                cut_rows(&mut case.state, ROWS_AT, from, to);
+                cut_rows(&mut case.state, ROW_COUNT, from, to);
             },
         );
         self.cut(
-            |case| rows_after(&case.state, CERTIFICATES_AT).len(),
+            |case| rows_after(&case.state, CERTIFICATE_COUNT).len(),
             |case, from, to| {
-                cut_rows(&mut case.state, CERTIFICATES_AT, from, to);
+                cut_rows(&mut case.state, CERTIFICATE_COUNT, from, to);
             },
         );
         self.cut(|case| case.tables.rule_count() * 8, cut_conditions);
@@ -127,13 +127,13 @@ fn changes_only(case: &Case) -> Case {
 /// The rules of the rows move with them; rows by a rule that goes, go.
 fn cut_rules(case: &mut Case, from: usize, to: usize) {
     case.tables.rules.drain(RULE * from..RULE * to);
-    for index in (0..rows_after(&case.state, ROWS_AT).len()).rev() {
-        let at = ROWS_AT + 1 + 3 * index + 2;
+    for index in (0..rows_after(&case.state, ROW_COUNT).len()).rev() {
+        let at = ROW_COUNT + 1 + 3 * index + 2;
         let rule = usize::from(case.state[at]);
         if rule >= to {
             case.state[at] -= (to - from) as u16;
         } else if rule >= from {
-            cut_rows(&mut case.state, ROWS_AT, index, index + 1);
+            cut_rows(&mut case.state, ROW_COUNT, index, index + 1);
         }
     }
 }
@@ -150,8 +150,8 @@ fn cut_kinds(case: &mut Case, from: usize, to: usize) {
         let kind = event.name.kind_at().map(|at| &mut event.numbers[at]);
         kind.into_iter().filter(|kind| **kind >= first).for_each(|kind| *kind -= gone);
     }
-    for index in 0..rows_after(&case.state, CERTIFICATES_AT).len() {
-        let kind = &mut case.state[CERTIFICATES_AT + 1 + 3 * index + 1];
+    for index in 0..rows_after(&case.state, CERTIFICATE_COUNT).len() {
+        let kind = &mut case.state[CERTIFICATE_COUNT + 1 + 3 * index + 1];
         if *kind >= first {
             *kind -= gone;
         }

@@ -79,8 +79,8 @@ fn prepare(fault: usize, event: &mut Event, lent: &mut Lent) {
         14 => rows.for_each(|row| row[2] = row[2].min(row[1])),
         15 => rows.flat_map(|row| &mut row[3..]).filter(|n| **n == 448).for_each(|n| *n = 447),
         17 if event.name == Name::Effective => rows.for_each(|row| row[2] = row[1]),
-        21 if lent.state.len() == STATE && lent.state[ROWS_AT] < 256 => {
-            lent.state[CERTIFICATES_AT - 1] = 0;
+        21 if lent.state.len() == STATE && lent.state[ROW_COUNT] < 256 => {
+            lent.state[CERTIFICATE_COUNT - 1] = 0;
         }
         22 => rules.truncate(if rules.len() == 513 * RULE { 512 * RULE } else { rules.len() }),
         24 => {
@@ -102,13 +102,13 @@ fn spoil(fault: usize, event: &Event, lent: &mut Lent, before: &[u16], answer: &
             answer.second = left_over(fault, &lent.tables, lent.state, before);
         }
         8 if code == 6 => lent.state[0] ^= 1,
-        10 if code == 0 && name == Name::Activate && lent.state[ROWS_AT] == 256 => {
+        10 if code == 0 && name == Name::Activate && lent.state[ROW_COUNT] == 256 => {
             lent.state.copy_from_slice(before);
             *answer = Answer { code: 6, second: 0 };
         }
-        11 if code == 8 && before[CERTIFICATES_AT] == 256 => answer.code = 6,
-        13 if code == 0 && before.len() == STATE && lent.state[ROWS_AT] < before[ROWS_AT] => {
-            let first = ROWS_AT + 1 + 3 * usize::from(lent.state[ROWS_AT]);
+        11 if code == 8 && before[CERTIFICATE_COUNT] == 256 => answer.code = 6,
+        13 if code == 0 && before.len() == STATE && lent.state[ROW_COUNT] < before[ROW_COUNT] => {
+            let first = ROW_COUNT + 1 + 3 * usize::from(lent.state[ROW_COUNT]);
             lent.state[first..first + 3].copy_from_slice(&before[first..first + 3]);
         }
         16 if code == 0 && name == Name::Logout => {

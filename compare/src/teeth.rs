@@ -36,8 +36,8 @@ pub fn run(seed: u64) -> i32 {
 fn order_is_found() -> bool {
     let mut state = fresh_state();
     state[0] = 1;
-    state[ROWS_AT..ROWS_AT + 4].copy_from_slice(&[1, 5, 0, 0]);
-    state[CERTIFICATES_AT..CERTIFICATES_AT + 4].copy_from_slice(&[1, 6, 0, 5]);
+    state[ROW_COUNT..ROW_COUNT + 4].copy_from_slice(&[1, 5, 0, 0]);
+    state[CERTIFICATE_COUNT..CERTIFICATE_COUNT + 4].copy_from_slice(&[1, 6, 0, 5]);
     let case = Case {
         guard: 1,
         tables: Tables {

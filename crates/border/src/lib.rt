@@ -13,7 +13,7 @@ pub struct Reply {
     pub second: u16,
 }
 
-fn told(answer: Answer) -> Reply
+fn reply_of(answer: Answer) -> Reply
     ensures { λ r. ⌜ (r .code ≡ answer .code) × (r .second ≡ answer .second) ⌝ }
 {
     Reply {
@@ -26,7 +26,7 @@ fn told(answer: Answer) -> Reply
 pub extern "C" fn adobethrum_fresh(state: &mut [u16]) -> Reply
     ensures { λ r. ⌜ Keeps (answer (lent [] [] []) (now (state .entry)) [] freshCall) (r .code) (r .second) (now (state .exit)) [] ⌝ }
 {
-    told(calls::fresh(state))
+    reply_of(calls::fresh(state))
 }
 
 #[no_mangle]
@@ -40,7 +40,7 @@ pub extern "C" fn adobethrum_activate(
 ) -> Reply
     ensures { λ r. ⌜ Keeps (answer (lent (now (rules .entry)) (now (kinds .entry)) (now (rights .entry))) (now (state .entry)) [] (activateCall user role)) (r .code) (r .second) (now (state .exit)) [] ⌝ }
 {
-    told(calls::activate(rules, kinds, rights, state, user, role))
+    reply_of(calls::activate(rules, kinds, rights, state, user, role))
 }
 
 #[no_mangle]
@@ -55,7 +55,7 @@ pub extern "C" fn adobethrum_appoint(
 ) -> Reply
     ensures { λ r. ⌜ Keeps (answer (lent (now (rules .entry)) (now (kinds .entry)) (now (rights .entry))) (now (state .entry)) [] (appointCall appointer appointee kind)) (r .code) (r .second) (now (state .exit)) [] ⌝ }
 {
-    told(calls::appoint(rules, kinds, rights, state, appointer, appointee, kind))
+    reply_of(calls::appoint(rules, kinds, rights, state, appointer, appointee, kind))
 }
 
 #[no_mangle]
@@ -71,7 +71,7 @@ pub extern "C" fn adobethrum_revoke(
 ) -> Reply
     ensures { λ r. ⌜ Keeps (answer (lent (now (rules .entry)) (now (kinds .entry)) (now (rights .entry))) (now (state .entry)) [] (revokeCall caller appointee kind appointer)) (r .code) (r .second) (now (state .exit)) [] ⌝ }
 {
-    told(calls::revoke(
+    reply_of(calls::revoke(
         rules,
         kinds,
         rights,
@@ -95,7 +95,7 @@ pub extern "C" fn adobethrum_withdraw(
 ) -> Reply
     ensures { λ r. ⌜ Keeps (answer (lent (now (rules .entry)) (now (kinds .entry)) (now (rights .entry))) (now (state .entry)) [] (withdrawCall appointee kind appointer)) (r .code) (r .second) (now (state .exit)) [] ⌝ }
 {
-    told(calls::withdraw(rules, kinds, rights, state, appointee, kind, appointer))
+    reply_of(calls::withdraw(rules, kinds, rights, state, appointee, kind, appointer))
 }
 
 #[no_mangle]
@@ -109,7 +109,7 @@ pub extern "C" fn adobethrum_environment(
 ) -> Reply
     ensures { λ r. ⌜ Keeps (answer (lent (now (rules .entry)) (now (kinds .entry)) (now (rights .entry))) (now (state .entry)) [] (environmentCall fact value)) (r .code) (r .second) (now (state .exit)) [] ⌝ }
 {
-    told(calls::environment(rules, kinds, rights, state, fact, value))
+    reply_of(calls::environment(rules, kinds, rights, state, fact, value))
 }
 
 #[no_mangle]
@@ -122,7 +122,7 @@ pub extern "C" fn adobethrum_logout(
 ) -> Reply
     ensures { λ r. ⌜ Keeps (answer (lent (now (rules .entry)) (now (kinds .entry)) (now (rights .entry))) (now (state .entry)) [] (logoutCall user)) (r .code) (r .second) (now (state .exit)) [] ⌝ }
 {
-    told(calls::logout(rules, kinds, rights, state, user))
+    reply_of(calls::logout(rules, kinds, rights, state, user))
 }
 
 #[no_mangle]
@@ -136,7 +136,7 @@ pub extern "C" fn adobethrum_invoke(
 ) -> Reply
     ensures { λ r. ⌜ Keeps (answer (lent (now (rules .entry)) (now (kinds .entry)) (now (rights .entry))) (now (state .entry)) [] (invokeCall user privilege)) (r .code) (r .second) (now (state .entry)) [] ⌝ }
 {
-    told(calls::invoke(rules, kinds, rights, state, user, privilege))
+    reply_of(calls::invoke(rules, kinds, rights, state, user, privilege))
 }
 
 #[no_mangle]
@@ -151,7 +151,7 @@ pub extern "C" fn adobethrum_effective(
 ) -> Reply
     ensures { λ r. ⌜ Keeps (answer (lent (now (rules .entry)) (now (kinds .entry)) (now (rights .entry))) (now (state .entry)) [] (effectiveCall user role privilege)) (r .code) (r .second) (now (state .entry)) [] ⌝ }
 {
-    told(calls::effective(rules, kinds, rights, state, user, role, privilege))
+    reply_of(calls::effective(rules, kinds, rights, state, user, role, privilege))
 }
 
 #[no_mangle]
@@ -166,5 +166,5 @@ pub extern "C" fn adobethrum_chain(
 ) -> Reply
     ensures { λ r. ⌜ Keeps (answer (lent (now (rules .entry)) (now (kinds .entry)) (now (rights .entry))) (now (state .entry)) (now (list .entry)) (chainCall user role)) (r .code) (r .second) (now (state .entry)) (now (list .exit)) ⌝ }
 {
-    told(calls::chain(rules, kinds, rights, state, user, role, list))
+    reply_of(calls::chain(rules, kinds, rights, state, user, role, list))
 }

@@ -18,7 +18,7 @@ use model::Row;
 
 // The table that stands behind its count at a place has one entry more.
 fn append(state: &mut [u16], at: usize, x: u16, y: u16, z: u16)
-    requires { ⌜ (getD (now state) at 0 < 256) × (at + 769 ≤ length (now state)) × (at < 1000) ⌝ }
+    requires { ⌜ (getD (now state) at 0 < 256) × (at + 769 ≤ length (now state)) ⌝ }
     ensures { λ r. ⌜ Appended (now (state .entry)) (now (state .exit)) at x y z ⌝ }
 {
     let n = table::wide(state[at]);

@@ -12,7 +12,7 @@ use lib.ListN.{length, getD, set, replicate, List·getD-eq-default}
 use lib.Seq.{getD-set-same, getD-set-other}
 use Rattle.model.specs.Lists.{any}
 use Rattle.model.specs.Layout.{policyOf, rightFrom}
-use Rattle.model.specs.Effective.{direct}
+use Rattle.model.specs.Effective.{isRight, direct}
 use Rattle.model.specs.Sound.{policyClauses, rightClauses, rightFits}
 use Rattle.model.specs.Words.{Sound}
 use Rattle.model.specs.declared.Right.{Right}
@@ -21,7 +21,7 @@ use Rattle.model.proofs.Tests.{lt-or-ge, each, all-of, any-append, repeated}
 use Rattle.table.specs.Entries.{entry, entries, rightAt}
 use Rattle.table.proofs.Entries.{entries-more, entry-member, right-places}
 use Rattle.policy.specs.Lent.{lent}
-use Rattle.direct.specs.Having.{RightsFit, met, isRight, Said, hasRight, Having}
+use Rattle.direct.specs.Having.{RightsFit, met, Said, hasRight, Having}
 
 module _ (rights : List ℕ) (x : ℕ) where
   pub said-none : (n : ℕ) → Said rights x 0 (replicate n false)

@@ -8,9 +8,8 @@ use lib.ListN.{getD}
 use Rattle.model.specs.Lists.{all, any}
 use Rattle.model.specs.Limits.{roles}
 use Rattle.model.specs.Layout.{policyOf, rightFrom}
-use Rattle.model.specs.declared.Right.{Right}
 use Rattle.model.specs.Sound.{rightFits}
-use Rattle.model.specs.Effective.{direct}
+use Rattle.model.specs.Effective.{isRight, direct}
 use Rattle.table.specs.Entries.{entries}
 use Rattle.policy.specs.Lent.{lent}
 
@@ -22,10 +21,6 @@ RightsFit rights = T (all rightFits (policyOf (lent [] [] rights) .rights))
 unfoldable pub met : List ℕ → ℕ → ℕ → ℕ → Bool
 met rights x from zero = false
 met rights x from (suc j) = met rights x from j || eqb (getD rights (from + j) 0) x
-
--- the right is one of the role q to the privilege x
-abbrev pub isRight : ℕ → ℕ → Right → Bool
-isRight x q r = eqb (r .role) q && eqb (r .privilege) x
 
 -- entry q says whether one of the first i rights is role q's to the privilege x
 abbrev pub Said : List ℕ → ℕ → ℕ → List Bool → Type 0

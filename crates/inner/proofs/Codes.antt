@@ -29,9 +29,9 @@ use Rattle.model.proofs.Refusals.{only-first, answer-code, refused-unchanged, a
 -- ── which refusal is first ──
 
 -- on sound tables a call's own refusals decide
-pub judged : (t : Tables) (s : List ℕ) → Sound t s → (c : Course) {n : ℕ} → FirstApplies (c .refusals) n → FirstApplies (judgedFirst t s c .refusals) n
+pub own-decide : (t : Tables) (s : List ℕ) → Sound t s → (c : Course) {n : ℕ} → FirstApplies (c .refusals) n → FirstApplies (judgedFirst t s c .refusals) n
 unfolding judgedFirst
-judged t s h c f = later (not-not-of (soundPolicy t) (h .policy)) (later (not-not-of (sound (policyOf t) s) (h .state)) f)
+own-decide t s h c f = later (not-not-of (soundPolicy t) (h .policy)) (later (not-not-of (sound (policyOf t) s) (h .state)) f)
 
 -- one clause of the ranges that is false, and all of them true
 pub out-of-range : (bs : List Bool) (i : ℕ) → getD bs i true ≡ false → T (not (every bs))
@@ -112,7 +112,7 @@ some-kind rules kinds rights k l = lt→ltb k (length (policyOf (lent rules kind
 
 module _ (t : Tables) (s list : List ℕ) (h : Sound t s) (c : Call) (course : Course) (is : courseOf t s list c ≡ judgedFirst t s course) where
   own : {n : ℕ} → FirstApplies (course .refusals) n → FirstApplies (courseOf t s list c .refusals) n
-  own {n} f = subst⁻¹ (λ (x : Course). FirstApplies (x .refusals) n) is (judged t s h course f)
+  own {n} f = subst⁻¹ (λ (x : Course). FirstApplies (x .refusals) n) is (own-decide t s h course f)
 
   pub own-refuses : (r : Answer) (code : ℕ) → 0 < code → (r .code ≡ code) × (r .second ≡ 0) → FirstApplies (course .refusals) code → AnswersWith t s list c r s list
   own-refuses r code n a f = refuses t s list c r code (omega arith) a (own f)

@@ -19,7 +19,7 @@ use Rattle.model.specs.Outcome.{Refusal, Outcome, Keeps}
 use Rattle.model.specs.Calls.{Call, activate, invoke, effective, courseOf, answer}
 use Rattle.model.specs.Withdrawals.{Withdrawal, run, allAtOnce}
 use Rattle.model.specs.Held.{held}
-use Rattle.model.specs.Words.{Sound, SoundState, FirstApplies, Unchanged, SatisfiedNow, Granted, CarriedNow, activeRows}
+use Rattle.model.specs.Words.{Sound, SoundState, FirstApplies, Unchanged, SatisfiedNow, Granted, CarriedNow, activeCount}
 use Rattle.model.specs.Tally.{Made, tally}
 use Rattle.model.specs.declared.Row.{Row}
 use Rattle.model.proofs.Parts.{part-member}
@@ -66,7 +66,7 @@ decode-undoes-encode p t h = decode-encode t (h .fits)
 -- ── Demand 2: what is granted, what stays, what is allowed ──
 
 -- (a) on sound tables a role in range, not active and with room left is granted exactly if some rule for it is satisfied now
-pub granted-exactly-if : (t : Tables) (s list : List ℕ) (u q : ℕ) → Sound t s → u < users → q < roles → T (not (active (decode s .rows) u q)) → activeRows s < mostRows
+pub granted-exactly-if : (t : Tables) (s list : List ℕ) (u q : ℕ) → Sound t s → u < users → q < roles → T (not (active (decode s .rows) u q)) → activeCount s < mostRows
     → (answer t s list (activate u q) .code ≡ accepted) ↔ ((i : ℕ) × SatisfiedNow t s u q i)
 granted-exactly-if t s list u q h a b new room = (λ e. (answer t s list (activate u q) .second, granted t s list u q e .satisfied-now), rule-gives-grant t s list u q h a b new room)
 
@@ -117,10 +117,10 @@ module _ (t : Tables) (s : List ℕ) (h : Sound t s) where
 
   -- and report the same total of roles lost
   pub any-order-loses-alike : {ws vs : List Withdrawal} → List·Permᴰ ws vs → run t s ws .lost ≡ run t s vs .lost
-  any-order-loses-alike {ws} {vs} d = omega (arith, run-loses t s ws, run-loses t s vs, ap activeRows (any-order-ends-alike d))
+  any-order-loses-alike {ws} {vs} d = omega (arith, run-loses t s ws, run-loses t s vs, ap activeCount (any-order-ends-alike d))
 
   -- the total is what the state has lost
-  pub total-is-what-was-lost : (ws : List Withdrawal) → run t s ws .lost + activeRows (run t s ws .state) ≡ activeRows s
+  pub total-is-what-was-lost : (ws : List Withdrawal) → run t s ws .lost + activeCount (run t s ws .state) ≡ activeCount s
   total-is-what-was-lost = run-loses t s
 
   -- a list with some left out never loses a row that the full list keeps, and the rows keep their order
@@ -137,5 +137,5 @@ pub one-outcome : (o : Outcome) (code₁ second₁ code₂ second₂ : ℕ) (sta
 one-outcome = kept-once
 
 -- from fresh, under one policy, over any calls: activations accepted are roles reported lost and the active count together
-pub grants-less-losses : (t : Tables) (calls : List Made) → tally t calls .granted ≡ tally t calls .lost + activeRows (tally t calls .state)
+pub grants-less-losses : (t : Tables) (calls : List Made) → tally t calls .granted ≡ tally t calls .lost + activeCount (tally t calls .state)
 grants-less-losses = balance

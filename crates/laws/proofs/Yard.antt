@@ -1,5 +1,6 @@
 -- A yard in which the laws bite: a sound policy and a sound state with a cascade of five layers, one of them through a certificate's
--- prerequisite role. It meets the premises of each law, and each law is instantiated at it, so that none is empty.
+-- prerequisite role. It meets the premises of each law, and each law is instantiated at it, so that none is empty. Its numbers are its
+-- own: the yard of the handbook and of the terminals is a smaller policy.
 use Prim.Native.Nat.{ℕ, _+_, _<_}
 use mathlib.Core.Path.{_≡_, refl, _∙_}
 use mathlib.Core.Bool.{not}
@@ -18,7 +19,7 @@ use Rattle.model.specs.Outcome.{Outcome, Keeps, judgedFirst, decided}
 use Rattle.model.specs.Calls.{Call, activate, environment, invoke, effective, settled, activateOn, withdrawOn, environmentOn, logoutOn, effectiveOn, courseOf, answer}
 use Rattle.model.specs.Withdrawals.{Withdrawal, factFalse, certificateGone, loggedOut, run, allAtOnce}
 use Rattle.model.specs.Held.{held}
-use Rattle.model.specs.Words.{Sound, FirstApplies, Unchanged, SatisfiedNow, Granted, CarriedNow, activeRows}
+use Rattle.model.specs.Words.{Sound, FirstApplies, Unchanged, SatisfiedNow, Granted, CarriedNow, activeCount}
 use Rattle.model.specs.Tally.{Made, grantedAfter, lostAfter, next, tally}
 use Rattle.model.proofs.Support.{of-active}
 use Rattle.model.proofs.Numbers.{sound-decode}
@@ -109,7 +110,7 @@ on-duty : SatisfiedNow yard midday 30 1 0
 unfolding yard midday policyOf decode meant active someStands holds satisfied
 on-duty = record { exists = omega arith; holds-now = tt }
 
-not-yet : T (not (active (decode midday .rows) 30 1)) × (activeRows midday < 256)
+not-yet : T (not (active (decode midday .rows) 30 1)) × (activeCount midday < 256)
 unfolding midday decode active
 not-yet = (tt, omega arith)
 
@@ -173,7 +174,7 @@ handover : (run yard midday (appointment ∷ []) .lost ≡ 4) × (run yard midda
 unfolding yard midday appointment nobody's closing policyOf decode encode meant active someStands holds satisfied supported left conditionFits ruleClauses kindClauses rightClauses policyClauses rowClauses certificateClauses formClauses soundRecords sound judgedFirst decided settled withdrawOn environmentOn logoutOn courseOf answer
 handover = (refl, refl)
 
-yard-lost : run yard midday closing .lost + activeRows (run yard midday closing .state) ≡ activeRows midday
+yard-lost : run yard midday closing .lost + activeCount (run yard midday closing .state) ≡ activeCount midday
 yard-lost = total-is-what-was-lost yard midday sound-yard closing
 
 -- without the first entry and the yard's closing
@@ -204,5 +205,5 @@ counted : (tally yard morning .granted ≡ 2) × (tally yard morning .lost ≡ 1
 unfolding yard morning grantedAfter lostAfter next policyOf decode encode meant active someStands holds satisfied supported left conditionFits ruleClauses kindClauses rightClauses policyClauses rowClauses certificateClauses formClauses soundRecords sound judgedFirst decided settled activateOn environmentOn courseOf answer
 counted = (refl, refl)
 
-yard-balance : activeRows (tally yard morning .state) ≡ 1
+yard-balance : activeCount (tally yard morning .state) ≡ 1
 yard-balance = omega (arith, grants-less-losses yard morning, counted .0, counted .1)

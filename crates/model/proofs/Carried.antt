@@ -159,9 +159,9 @@ carried-allowed p rows u x {q} (directly r m i d) =
 carried-allowed p rows u x (through r m i lower k c) = carried-allowed p rows u x c
 
 -- any set closed as definition 10 says holds every role that carries the privilege: it is the least
-pub carries-least : (p : Policy) (rows : List Row) (u x : ℕ) (Holds : ℕ → Type 0)
-    → ((q : ℕ) (r : Row) → List·Memᴰ r rows → T (isRow u q r) → T (direct p q x) → Holds q)
-    → ((q : ℕ) (r : Row) → List·Memᴰ r rows → T (isRow u q r) → (lower : ℕ) → List·Memᴰ lower (restsOn p r) → Holds lower → Holds q)
-    → {q : ℕ} → Carries p rows u x q → Holds q
-carries-least p rows u x Holds f g {q} (directly r m i d) = f q r m i d
-carries-least p rows u x Holds f g {q} (through r m i lower k c) = g q r m i lower k (carries-least p rows u x Holds f g c)
+pub carries-least : (p : Policy) (rows : List Row) (u x : ℕ) (Set : ℕ → Type 0)
+    → ((q : ℕ) (r : Row) → List·Memᴰ r rows → T (isRow u q r) → T (direct p q x) → Set q)
+    → ((q : ℕ) (r : Row) → List·Memᴰ r rows → T (isRow u q r) → (lower : ℕ) → List·Memᴰ lower (restsOn p r) → Set lower → Set q)
+    → {q : ℕ} → Carries p rows u x q → Set q
+carries-least p rows u x Set f g {q} (directly r m i d) = f q r m i d
+carries-least p rows u x Set f g {q} (through r m i lower k c) = g q r m i lower k (carries-least p rows u x Set f g c)

@@ -215,15 +215,15 @@ module _ (t : State) (f : Fits t) where
       zeros-after k l size used e q = subst⁻¹ (λ (r : List ℕ). T (all isZero r)) (ap (λ (r : List ℕ). drop k r) q ∙ drop-at used (replicate (size - length used) 0) k (sym e)) (only-zeros (size - length used))
 
 module _ (s : List ℕ) (t : T (wellFormed s)) where
-  formed-size : length s ≡ stateSize
+  pub formed-size : length s ≡ stateSize
   unfolding formClauses
   formed-size = eqb→eq (length s) stateSize (each (formClauses s) t .0)
 
-  formed-rows : rowCount s ≤ mostRows
+  pub formed-rows : rowCount s ≤ mostRows
   unfolding formClauses
   formed-rows = leb→le (rowCount s) mostRows (each (formClauses s) t .1 .1 .0)
 
-  formed-certificates : certificateCount s ≤ mostCertificates
+  pub formed-certificates : certificateCount s ≤ mostCertificates
   unfolding formClauses
   formed-certificates = leb→le (certificateCount s) mostCertificates (each (formClauses s) t .1 .1 .1 .0)
 

@@ -2,14 +2,14 @@
 -- less, and in a sound state a row is served only by rows before it.
 use Prim.Native.Nat.{ℕ}
 use mathlib.Core.Path.{_≡_, refl, subst, subst⁻¹}
-use mathlib.Core.Bool.{Bool, true, false, not, _&&_}
+use mathlib.Core.Bool.{Bool, true, false, not}
 use mathlib.Core.Logic.{_⊎_, inl, inr}
 use mathlib.Core.List.{List, [], _∷_, _++_, List·Memᴰ, List·Memᴰ·head, List·Memᴰ·tail, List·Memᴰ·cases-cons, List·Memᴰ·not-nil, List·Memᴰ·append-cases, List·Memᴰ·eq-of-singleton, Memᴰ·append-left, Memᴰ·append-right}
 use lib.Dec.{T, eqb, ltb, eqb→eq, T-not}
 use lib.ListN.{length, getD}
 use Rattle.model.specs.Lists.{all, allOverEarlier, joined}
 use Rattle.model.specs.Records.{Policy, State, World, worldOf}
-use Rattle.model.specs.Conditions.{Condition, role, kind, fact, malformed, meant, ruleNumbered, kindNumbered, membership, prerequisiteRoles, isRow, active, someStands, holds, supported, rolesAsked, restsOn}
+use Rattle.model.specs.Conditions.{Condition, role, kind, fact, malformed, meant, ruleNumbered, kindNumbered, membership, prerequisiteRoles, isRow, active, standsFor, someStands, holds, supported, rolesAsked, restsOn}
 use Rattle.model.specs.Sound.{rowClauses, rowSound}
 use Rattle.model.specs.Limits.{users, roles}
 use Rattle.model.specs.declared.Row.{Row}
@@ -201,6 +201,6 @@ less-supports p few many l xs r t = supported-moves (worldOf p few) (worldOf p m
   where
     reads : (c : Condition) → T (rest (worldOf p few) (r .user) c) → T (rest (worldOf p many) (r .user) c)
     reads (role q) h = tt
-    reads (kind k) h = any-map (λ (c : Certificate). eqb (c .appointee) (r .user) && eqb (c .kind) k) (λ (c : Certificate). eqb (c .appointee) (r .user) && eqb (c .kind) k) (few .certificates) (many .certificates) (λ c m v. (l .certificates c m, v)) h
+    reads (kind k) h = any-map (standsFor (r .user) k) (standsFor (r .user) k) (few .certificates) (many .certificates) (λ c m v. (l .certificates c m, v)) h
     reads (fact f) h = l .facts f h
     reads malformed h = h

@@ -56,9 +56,13 @@ isRow u q r = eqb (r .user) u && eqb (r .role) q
 unfoldable pub active : List Row → ℕ → ℕ → Bool
 active rows u q = any (isRow u q) rows
 
+-- the certificate is one of the kind, and stands for the user
+abbrev pub standsFor : ℕ → ℕ → Certificate → Bool
+standsFor u k c = eqb (c .appointee) u && eqb (c .kind) k
+
 -- "some certificate of that kind stands for the user"
 unfoldable pub someStands : List Certificate → ℕ → ℕ → Bool
-someStands certificates u k = any (λ (c : Certificate). eqb (c .appointee) u && eqb (c .kind) k) certificates
+someStands certificates u k = any (standsFor u k) certificates
 
 -- definition 6, as the outline states it: "a role, if the user is active in it; a kind, if some certificate of that kind stands for the
 -- user and the user is active in all the kind's prerequisite roles; a fact, if it is 1."

@@ -9,9 +9,13 @@ use Rattle.model.specs.Conditions.{isRow, restsOn}
 use Rattle.model.specs.declared.Right.{Right}
 use Rattle.model.specs.declared.Row.{Row}
 
+-- the right is one of the role q to the privilege x
+abbrev pub isRight : ℕ → ℕ → Right → Bool
+isRight x q r = eqb (r .role) q && eqb (r .privilege) x
+
 -- "DP(r) = {p | (r, p) ∈ RP}"
 unfoldable pub direct : Policy → ℕ → ℕ → Bool
-direct p q x = any (λ (r : Right). eqb (r .role) q && eqb (r .privilege) x) (p .rights)
+direct p q x = any (isRight x q) (p .rights)
 
 -- definition 10, "Suppose a user u is active in some role r": the privileges of the role itself, with the effective privileges of
 -- each role that the membership conditions of the user's row for it ask for. The least such set, for a user u and a privilege x

@@ -62,6 +62,6 @@ pub record CarriedNow (t : Tables) (s : List ℕ) (u x : ℕ) : Type 0 where
   pub of-user : row .user ≡ u
   pub has-right : T (direct (policyOf t) (row .role) x)
 
--- the active rows of a state of numbers
-abbrev pub activeRows : List ℕ → ℕ
-activeRows s = length (decode s .rows)
+-- how many active rows a state of numbers has
+abbrev pub activeCount : List ℕ → ℕ
+activeCount s = length (decode s .rows)

@@ -1,4 +1,4 @@
--- Where a role of a user stands in the rows, and that the roles of the rows are in range.
+-- Where a role of a user stands in the rows.
 use Prim.Native.Nat.{ℕ, zero, suc, _<_}
 use mathlib.Core.Bool.{cond}
 use mathlib.Core.List.{List}

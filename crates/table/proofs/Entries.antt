@@ -7,15 +7,14 @@ use mathlib.Core.List.{List, [], _∷_, _++_, List·Memᴰ}
 use native.Mathlib.Omega.{arith}
 use native.Mathlib.Nat.{suc-mul, zero-mul, add-comm}
 use native.Mathlib.Numerals.{add-one}
-use lib.Dec.{T, eqb→eq, leb→le}
+use lib.Dec.{T}
 use lib.ListN.{length, getD, take, drop, length-drop, List·getD-eq-default, length-map}
 use lib.Seq.{getD-take, getD-drop, drop-drop, take-suc, ext-getD, length-take-le}
 use Rattle.model.specs.Lists.{any, all, rowsOf}
-use Rattle.model.specs.Limits.{stateSize, mostRows, mostCertificates}
-use Rattle.model.specs.Layout.{rowFrom, rowNumbers, rowCount, certificateCount}
-use Rattle.model.specs.Sound.{formClauses, wellFormed}
-use Rattle.model.proofs.Tests.{all-append, at-place, is-true, of-true, any-append, of-any, all-of, each, among-first}
-use Rattle.model.proofs.Numbers.{length-rows}
+use Rattle.model.specs.Layout.{rowFrom, rowNumbers}
+use Rattle.model.specs.Sound.{wellFormed}
+use Rattle.model.proofs.Tests.{all-append, at-place, is-true, of-true, any-append, of-any, all-of, among-first}
+use Rattle.model.proofs.Numbers.{length-rows, formed-size, formed-rows, formed-certificates}
 use Rattle.table.specs.Entries.{entry, entries, ruleAt, kindAt, rightAt, rowAt, firstRows, certificateAt, Sized}
 
 -- ── one entry more ──
@@ -167,10 +166,6 @@ module _ (s : List ℕ) (i : ℕ) (h : i < 256) where
 -- ── a well formed state ──
 
 pub sized : (s : List ℕ) → wellFormed s ≡ true → Sized s
-unfolding formClauses
 sized s e =
-    record {
-      size = eqb→eq (length s) stateSize (each (formClauses s) (of-true (wellFormed s) e) .0);
-      rows = leb→le (rowCount s) mostRows (each (formClauses s) (of-true (wellFormed s) e) .1 .1 .0);
-      certificates = leb→le (certificateCount s) mostCertificates (each (formClauses s) (of-true (wellFormed s) e) .1 .1 .1 .0);
-    }
+    let t : T (wellFormed s) = of-true (wellFormed s) e in
+    record { size = formed-size s t; rows = formed-rows s t; certificates = formed-certificates s t }

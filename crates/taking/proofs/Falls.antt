@@ -32,7 +32,7 @@ use Rattle.table.proofs.Worlds.{supported-same}
 use Rattle.index.specs.Indexed.{InRange}
 use Rattle.fall.specs.Changes.{Left}
 use Rattle.inner.specs.Lent.{lent, Answers}
-use Rattle.inner.proofs.Codes.{judged, own-refuses, own-accepts, out-of-range, in-range, found, certificate-length, some-kind}
+use Rattle.inner.proofs.Codes.{own-decide, own-refuses, own-accepts, out-of-range, in-range, found, certificate-length, some-kind}
 use Rattle.taking.specs.Fallen.{Fallen, fallenRows}
 use Rattle.taking.specs.Taken.{takenOn, Comes}
 
@@ -138,7 +138,7 @@ module _ (rules kinds rights s : List ℕ) (h : Sound (lent rules kinds rights) 
   unfolding answer judgedFirst
   on-sound c course is r s′ k =
       subst (λ (x : Course). Keeps (decided (firstCode (x .refusals)) s [] (x .effect)) (r .code) (r .second) s′ []) (sym is)
-      (subst (λ (n : ℕ). Keeps (decided n s [] (course .effect)) (r .code) (r .second) s′ []) (only-first (judged (lent rules kinds rights) s h course (first-applies (course .refusals)))) k)
+      (subst (λ (n : ℕ). Keeps (decided n s [] (course .effect)) (r .code) (r .second) s′ []) (only-first (own-decide (lent rules kinds rights) s h course (first-applies (course .refusals)))) k)
 
   -- ── the certificate c, found at j ──
 

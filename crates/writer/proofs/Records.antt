@@ -108,7 +108,7 @@ event-extent (first ∷ arguments) h l = go (every (lineClauses word arguments))
     go false e p q = absurd (omega arith)
 
 -- an event's record has at least seven bytes, those of `env,0,0`
-pub event-length : (bytes : List ℕ) → 3 ≤ lineOf bytes .word → lineOf bytes .word < 11 → 7 ≤ length bytes
+pub event-length : (bytes : List ℕ) → policyWords ≤ lineOf bytes .word → lineOf bytes .word < words → 7 ≤ length bytes
 unfolding lineOf
 event-length bytes h l =
     let e = event-extent (said bytes) h l in

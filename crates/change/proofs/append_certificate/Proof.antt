@@ -6,7 +6,7 @@ use Rattle.change.proofs.append_certificate.Statement.{statement}
 use Rattle.change.proofs.append_certificate.Tie as tie
 
 append-requires : tie.Need-append-requires
-append-requires c κs = (c .before .before .pre .1, omega (arith, formed (c .before .before .args .state .now) (c .before .before .pre .0) .size), omega arith)
+append-requires c κs = (c .before .before .pre .1, omega (arith, formed (c .before .before .args .state .now) (c .before .before .pre .0) .size))
 
 same-length : tie.Need-same-length
 same-length c = search needs

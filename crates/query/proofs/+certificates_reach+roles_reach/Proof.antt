@@ -1,5 +1,5 @@
 -- Two functions that call each other: roles go down the rows, and hand over where a row names a kind that has not asked. The measure is
--- twice the place, and one more for certificates, which hand tell-down at the same place. The invariants: what the marks tell of the rows left
+-- twice the place, and one more for certificates, which hand back at the same place. The invariants: what the marks tell of the rows left
 -- is what they told at first of all k; and the conditions passed have asked, and nothing else was marked.
 use Prim.Native.Nat.{ℕ, _+_, _-_, _*_, _≤_, _<_}
 use mathlib.Core.Path.{_≡_, refl, sym, _∙_, subst⁻¹}
