@@ -15,15 +15,17 @@ ghost use Rattle.table.specs.Entries.{worldAt, withoutRights, Sized};
 ghost use Rattle.index.specs.Marked.{has, roleMarked, holdsBy, allHoldBy, supportedBy};
 ghost use Rattle.index.specs.Owned.{InRange, Own};
 use model::CERTIFICATE_COUNT;
+use model::FACTS_END;
+use model::FIRST_FACT;
+use model::FIRST_KIND;
+use model::FIRST_MALFORMED;
 use model::ROLES;
 use model::ROW_COUNT;
 use model::Row;
 use model::Rule;
 
 // From which mark on they are kinds.
-const KINDS: usize = 256;
-
-const FACTS: usize = 64;
+pub const KINDS: usize = 256;
 
 // The role is marked. A role out of range never is.
 pub fn role_marked(own: &[bool], role: u16) -> bool
@@ -71,7 +73,7 @@ fn fact_holds(state: &[u16], fact: u16) -> bool
     ensures { λ r. ⌜ r ≡ eqb (getD (factNumbers (now (state .entry))) fact 0) 1 ⌝ }
 {
     let at = table::wide(fact);
-    if at < FACTS {
+    if at < FACTS_END {
         return state[at] == 1;
     }
     false
@@ -82,14 +84,14 @@ fn condition_holds(kinds: &[u16], state: &[u16], own: &[bool], c: u16) -> bool
     requires { ⌜ Sized (now state) × (length (now own) ≡ 384) ⌝ }
     ensures { λ r. ⌜ r ≡ holdsBy (has (now (own .entry))) (worldAt [] (now (kinds .entry)) (now (state .entry))) (meant c) ⌝ }
 {
-    if c < 256 {
+    if c < FIRST_KIND {
         return role_marked(own, c);
     }
-    if c < 384 {
-        return kind_holds(kinds, own, c - 256);
+    if c < FIRST_FACT {
+        return kind_holds(kinds, own, c - FIRST_KIND);
     }
-    if c < 448 {
-        return fact_holds(state, c - 384);
+    if c < FIRST_MALFORMED {
+        return fact_holds(state, c - FIRST_FACT);
     }
     false
 }

@@ -16,7 +16,10 @@ use model::CERTIFICATE_COUNT;
 use model::CERTIFICATE_WIDTH;
 use model::CERTIFICATES;
 use model::Certificate;
+use model::FACTS_END;
 use model::KIND_WIDTH;
+use model::MOST_CERTIFICATES;
+use model::MOST_ROWS;
 use model::ROLES;
 use model::ROW_COUNT;
 use model::ROW_WIDTH;
@@ -25,11 +28,6 @@ use model::RULE_WIDTH;
 use model::Row;
 use model::STATE_SIZE;
 use model::USERS;
-
-const FACTS: usize = 64;
-
-// The most rows, and the most certificates.
-const MOST: usize = 256;
 
 // How many traces there are: the marks of 1,024 numbers.
 const TRACES: usize = 16384;
@@ -40,7 +38,7 @@ fn facts_are_bits(state: &[u16]) -> bool
     ensures { λ r. ⌜ r ≡ all isBit (factNumbers (now (state .entry))) ⌝ }
 {
     let mut j: usize = 0;
-    while j < FACTS {
+    while j < FACTS_END {
         if state[j] > 1 {
             return false;
         }
@@ -60,19 +58,19 @@ fn well_formed(state: &[u16]) -> bool
         return false;
     }
     let rows = state[ROW_COUNT] as usize;
-    if rows > MOST {
+    if rows > MOST_ROWS {
         return false;
     }
     let certificates = state[CERTIFICATE_COUNT] as usize;
-    if certificates > MOST {
+    if certificates > MOST_CERTIFICATES {
         return false;
     }
     let used = rows * ROW_WIDTH;
     if !policy::all_zero(state, ROWS + used, 768 - used) {
         return false;
     }
-    let held = certificates * CERTIFICATE_WIDTH;
-    if !policy::all_zero(state, CERTIFICATES + held, 768 - held) {
+    let standing = certificates * CERTIFICATE_WIDTH;
+    if !policy::all_zero(state, CERTIFICATES + standing, 768 - standing) {
         return false;
     }
     true

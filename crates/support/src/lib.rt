@@ -16,9 +16,6 @@ use model::CERTIFICATES;
 use model::ROW_COUNT;
 use model::ROWS;
 
-// From which mark on they are kinds.
-const KINDS: usize = 256;
-
 // What is said of a row: 0 where it is not judged yet.
 pub const STAYS: u8 = 1;
 
@@ -38,7 +35,7 @@ fn enter_kinds(state: &[u16], heads: &[u16], next: &[u16], user: u16, own: &mut 
         let certificate = table::certificate_at(state, k);
         k = table::wide(next[k]);
         if certificate.appointee == user {
-            own[KINDS + table::wide(certificate.kind)] = true;
+            own[index::KINDS + table::wide(certificate.kind)] = true;
         }
     }
 }

@@ -54,8 +54,8 @@ returns-5 c =
     fails (formClauses (c .before .before .before .before .before .before .before .before .before .before .args .state .now))
     (later (later (later (later (here (ap (all isZero) (past (c .before .before .before .before .before .before .before .before .before .before .args .state .now) 65 768 (rowCount (c .before .before .before .before .before .before .before .before .before .before .args .state .now) * 3) (omega arith) (omega arith)) ∙ sym (c .before .all-zero .ensures) ∙ not-true _ (c .if5 .taken)))))))
 
-mul-held : tie.Need-mul-held
-mul-held c = search needs
+mul-standing : tie.Need-mul-standing
+mul-standing c = search needs
 
 add-all-zero-2 : tie.Need-add-all-zero-2
 add-all-zero-2 c = search needs
@@ -116,7 +116,7 @@ well-formed-spec =
     sub-all-zero
     all-zero-requires
     returns-5
-    mul-held
+    mul-standing
     add-all-zero-2
     sub-all-zero-2
     all-zero-requires-2
