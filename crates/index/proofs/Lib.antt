@@ -1,3 +1,2 @@
 pub mod Holding
-pub mod Indexing
 pub mod Owning

@@ -116,13 +116,7 @@ fn all_conditions_hold(
 }
 
 // The membership conditions of the row's own rule hold by its user's own marks.
-pub fn row_supported(
-    rules: &[u16],
-    kinds: &[u16],
-    state: &[u16],
-    own: &[bool],
-    row: Row,
-) -> bool
+pub fn row_supported(rules: &[u16], kinds: &[u16], state: &[u16], own: &[bool], row: Row) -> bool
     requires { ⌜ Sized (now state) × (length (now own) ≡ 384) ⌝ }
     ensures { λ r. ⌜ r ≡ supportedBy (has (now (own .entry))) (worldAt (now (rules .entry)) (now (kinds .entry)) (now (state .entry))) row ⌝ }
 {

@@ -1,7 +1,7 @@
 -- Activate: each answer that the code gives is the model's.
 use Prim.Native.Nat.{ℕ, _≤_, _<_, _/_}
 use mathlib.Core.Path.{_≡_, refl, ap, _∙_}
-use mathlib.Core.Bool.{true, false, not}
+use mathlib.Core.Bool.{Bool, true, false, not}
 use mathlib.Core.List.{List, [], _∷_, _++_}
 use native.Mathlib.Omega.{arith}
 use lib.Dec.{T, leb, lt→ltb, le→leb}
@@ -20,19 +20,19 @@ use Rattle.model.proofs.Tests.{of-true, of-false, found-any, not-found}
 use Rattle.table.specs.Entries.{worldAt, withoutRights}
 use Rattle.table.proofs.Entries.{length-entries}
 use Rattle.table.proofs.Worlds.{satisfied-same}
-use Rattle.index.specs.Marked.{block, satisfiedBy}
-use Rattle.index.specs.Indexed.{Own}
+use Rattle.index.specs.Marked.{has, satisfiedBy}
+use Rattle.index.specs.Owned.{Own}
 use Rattle.index.proofs.Owning.{satisfied-own}
 use Rattle.inner.specs.Lent.{lent, Answers}
 use Rattle.inner.proofs.Codes.{own-refuses, own-accepts, out-of-range, in-range, found, row-length}
 
 -- the lowest rule by the user's own marks is the lowest that is satisfied
-pub lowest-own : (rules kinds s : List ℕ) (u q i : ℕ) (words : List ℕ) → Own u words (decode s .rows) (decode s .certificates)
-    → i ≡ firstPlace (satisfiedBy (block words 0) (worldAt rules kinds s) q) (policyOf (withoutRights rules kinds) .rules)
+pub lowest-own : (rules kinds s : List ℕ) (u q i : ℕ) (own : List Bool) → Own u own (decode s .rows) (decode s .certificates)
+    → i ≡ firstPlace (satisfiedBy (has own) (worldAt rules kinds s) q) (policyOf (withoutRights rules kinds) .rules)
     → i ≡ firstPlace (satisfied (worldAt rules kinds s) (decode s .rows) u q) (policyOf (withoutRights rules kinds) .rules)
-lowest-own rules kinds s u q i words x h =
+lowest-own rules kinds s u q i own x h =
     h
-    ∙ (λ j. firstPlace (λ (r : Rule). satisfied-own u words (decode s .rows) (worldAt rules kinds s) x q r j) (policyOf (withoutRights rules kinds) .rules))
+    ∙ (λ j. firstPlace (λ (r : Rule). satisfied-own u own (decode s .rows) (worldAt rules kinds s) x q r j) (policyOf (withoutRights rules kinds) .rules))
 
 module _ (rules kinds rights s : List ℕ) (h : Sound (lent rules kinds rights) s) (u q : ℕ) where
   refused : (r : Answer) (code : ℕ) → 0 < code → (r .code ≡ code) × (r .second ≡ 0) → FirstApplies (activateOn (given (lent rules kinds rights) s []) u q .refusals) code → Answers (lent rules kinds rights) s (activate u q) r s

@@ -12,17 +12,8 @@ use lib.Dec.{eqb, eqb·suc-suc}
 use lib.ListN.{length, getD, set, length-set}
 use lib.Seq.{getD-set-same, getD-set-other}
 use borrow.Author.Tests.{eq-eqb, ne-eqb}
+use Rattle.model.proofs.Tests.{eq-or-ne}
 use Rattle.marks.specs.Marks.{bit, marked, Marked}
-
-pub eq-or-ne : (a b : ℕ) → (a ≡ b) ⊎ (a ≢ b)
-eq-or-ne zero zero = inl refl
-eq-or-ne zero (suc b) = inr (λ q. omega (arith, q))
-eq-or-ne (suc a) zero = inr (λ q. omega (arith, q))
-eq-or-ne (suc a) (suc b) = go (eq-or-ne a b)
-  where
-    go : (a ≡ b) ⊎ (a ≢ b) → (suc a ≡ suc b) ⊎ (suc a ≢ suc b)
-    go (inl q) = inl (ap suc q)
-    go (inr q) = inr (λ e. q (omega (arith, e)))
 
 -- ── bits ──
 

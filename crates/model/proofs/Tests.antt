@@ -2,10 +2,10 @@
 use Prim.Native.Nat.{ℕ, zero, suc, _+_, _<_, _≤_}
 use mathlib.Core.Path.{_≡_, refl, sym, ap, _∙_, subst, subst⁻¹}
 use mathlib.Core.Bool.{Bool, true, false, not, _&&_, _||_, cond, true≢false}
-use mathlib.Core.Logic.{_⊎_, inl, inr}
+use mathlib.Core.Logic.{_≢_, _⊎_, inl, inr}
 use mathlib.Core.List.{List, [], _∷_, _++_, append-assoc, append-nil, List·Memᴰ, List·Memᴰ·head, List·Memᴰ·tail, List·Memᴰ·cases-cons, List·Memᴰ·not-nil}
 use native.Mathlib.Omega.{arith}
-use lib.Dec.{T, ltb, ltb→lt, nltb→le}
+use lib.Dec.{T, eqb, ltb, eqb→eq, eqb-refl, ltb→lt, nltb→le, T-not}
 use lib.ListN.{length, getD, take, replicate, length-take}
 use lib.Seq.{getD-take}
 use Rattle.model.specs.Lists.{every, any, all, allOverEarlier, firstPlace}
@@ -45,6 +45,13 @@ lt-or-ge a b = go (decide (ltb a b))
     go : T (ltb a b) ⊎ T (not (ltb a b)) → (a < b) ⊎ (b ≤ a)
     go (inl t) = inl (ltb→lt a b t)
     go (inr t) = inr (nltb→le a b t)
+
+pub eq-or-ne : (a b : ℕ) → (a ≡ b) ⊎ (a ≢ b)
+eq-or-ne a b = go (decide (eqb a b))
+  where
+    go : T (eqb a b) ⊎ T (not (eqb a b)) → (a ≡ b) ⊎ (a ≢ b)
+    go (inl t) = inl (eqb→eq a b t)
+    go (inr t) = inr (λ e. T-not (eqb a b) t (subst (λ (n : ℕ). T (eqb a n)) e (eqb-refl a)))
 
 pub and-left : (a b : Bool) → T (a && b) → T a
 and-left true b t = tt

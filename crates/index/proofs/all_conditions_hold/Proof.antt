@@ -8,20 +8,20 @@ use lib.ListN.{take}
 use borrow.Author.Tests.{not-true, not-false}
 use Rattle.model.specs.Conditions.{meant}
 use Rattle.table.specs.Entries.{worldAt}
-use Rattle.index.specs.Marked.{block, holdsBy, allHoldBy}
+use Rattle.index.specs.Marked.{has, holdsBy, allHoldBy}
 use Rattle.table.proofs.Entries.{all-next, all-miss}
 use borrow.Author.Needs.{needs}
 use Rattle.index.proofs.all_conditions_hold.Statement.{statement}
 use Rattle.index.proofs.all_conditions_hold.Tie as tie
 
-abbrev test : List ℕ → List ℕ → List ℕ → ℕ → ℕ → Bool
-test kinds state words base c = holdsBy (block words base) (worldAt [] kinds state) (meant c)
+abbrev test : List ℕ → List ℕ → List Bool → ℕ → Bool
+test kinds state own c = holdsBy (has own) (worldAt [] kinds state) (meant c)
 
 abbrev Inv-loop : tie.InvT-loop
-Inv-loop kinds state words base n conditions j₀ j = (j ≤ n) × (allHoldBy (block words base) (worldAt [] kinds state) (take j conditions) ≡ true)
+Inv-loop kinds state own n conditions j₀ j = (j ≤ n) × (allHoldBy (has own) (worldAt [] kinds state) (take j conditions) ≡ true)
 
 abbrev μ-loop : tie.MeasureT-loop
-μ-loop kinds state words base n conditions j₀ j = n - j
+μ-loop kinds state own n conditions j₀ j = n - j
 
 loop-holds : tie.Need-loop-holds Inv-loop μ-loop
 loop-holds c = (search needs, refl)
@@ -36,7 +36,7 @@ condition-holds-requires : tie.Need-condition-holds-requires Inv-loop μ-loop
 condition-holds-requires c κs = search needs
 
 returns : tie.Need-returns Inv-loop μ-loop
-returns c = sym (all-miss (test (c .before .before .before .before .before .before .before .args .kinds .now) (c .before .before .before .before .before .before .before .args .state .now) (c .before .before .before .before .before .before .before .args .words .now) (c .before .before .before .before .before .before .before .args .base)) (c .before .before .before .before .before .before .before .args .t5) 0 (c .before .before .before .before .before .before .before .args .n) (c .before .before .before .loop .j) (c .before .before .loop-test .taken) (search needs) (sym (c .before .condition-holds .ensures) ∙ not-true _ (c .if1 .taken)))
+returns c = sym (all-miss (test (c .before .before .before .before .before .before .before .args .kinds .now) (c .before .before .before .before .before .before .before .args .state .now) (c .before .before .before .before .before .before .before .args .own .now)) (c .before .before .before .before .before .before .before .args .t4) 0 (c .before .before .before .before .before .before .before .args .n) (c .before .before .before .loop .j) (c .before .before .loop-test .taken) (search needs) (sym (c .before .condition-holds .ensures) ∙ not-true _ (c .if1 .taken)))
 
 add-j : tie.Need-add-j Inv-loop μ-loop
 add-j c = search needs
@@ -45,12 +45,12 @@ loop-less : tie.Need-loop-less Inv-loop μ-loop
 loop-less c = search needs
 
 loop-again : tie.Need-loop-again Inv-loop μ-loop
-loop-again c = (search needs, all-next (test (c .before .before .before .before .before .before .before .args .kinds .now) (c .before .before .before .before .before .before .before .args .state .now) (c .before .before .before .before .before .before .before .args .words .now) (c .before .before .before .before .before .before .before .args .base)) (c .before .before .before .before .before .before .before .args .t5) 0 (c .before .before .before .loop .j) (search needs) (c .before .before .before .loop .inv .1) (sym (c .before .condition-holds .ensures) ∙ not-false _ (c .if1 .left)))
+loop-again c = (search needs, all-next (test (c .before .before .before .before .before .before .before .args .kinds .now) (c .before .before .before .before .before .before .before .args .state .now) (c .before .before .before .before .before .before .before .args .own .now)) (c .before .before .before .before .before .before .before .args .t4) 0 (c .before .before .before .loop .j) (search needs) (c .before .before .before .loop .inv .1) (sym (c .before .condition-holds .ensures) ∙ not-false _ (c .if1 .left)))
 
 returns-2 : tie.Need-returns-2 Inv-loop μ-loop
 returns-2 c =
     let e : c .before .loop .j ≡ c .before .before .before .before .before .args .n = omega arith in
-    sym (c .before .loop .inv .1) ∙ ap (λ (m : ℕ). allHoldBy (block (c .before .before .before .before .before .args .words .now) (c .before .before .before .before .before .args .base)) (worldAt [] (c .before .before .before .before .before .args .kinds .now) (c .before .before .before .before .before .args .state .now)) (take m (c .before .before .before .before .before .args .t5))) e
+    sym (c .before .loop .inv .1) ∙ ap (λ (m : ℕ). allHoldBy (has (c .before .before .before .before .before .args .own .now)) (worldAt [] (c .before .before .before .before .before .args .kinds .now) (c .before .before .before .before .before .args .state .now)) (take m (c .before .before .before .before .before .args .t4))) e
 
 pub all-conditions-hold-spec : {M : Type 1} → statement M
 all-conditions-hold-spec =

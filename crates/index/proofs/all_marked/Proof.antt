@@ -6,17 +6,17 @@ use native.Mathlib.Omega.{arith}
 use lib.ListN.{take}
 use borrow.Author.Tests.{not-true, not-false}
 use Rattle.model.specs.Lists.{all}
-use Rattle.index.specs.Marked.{block, roleMarked}
+use Rattle.index.specs.Marked.{has, roleMarked}
 use Rattle.table.proofs.Entries.{all-next, all-miss}
 use borrow.Author.Needs.{needs}
 use Rattle.index.proofs.all_marked.Statement.{statement}
 use Rattle.index.proofs.all_marked.Tie as tie
 
 abbrev Inv-loop : tie.InvT-loop
-Inv-loop words base n roles j₀ j = (j ≤ n) × (all (roleMarked (block words base)) (take j roles) ≡ true)
+Inv-loop own n roles j₀ j = (j ≤ n) × (all (roleMarked (has own)) (take j roles) ≡ true)
 
 abbrev μ-loop : tie.MeasureT-loop
-μ-loop words base n roles j₀ j = n - j
+μ-loop own n roles j₀ j = n - j
 
 loop-holds : tie.Need-loop-holds Inv-loop μ-loop
 loop-holds c = (search needs, refl)
@@ -31,7 +31,7 @@ role-marked-requires : tie.Need-role-marked-requires Inv-loop μ-loop
 role-marked-requires c κs = search needs
 
 returns : tie.Need-returns Inv-loop μ-loop
-returns c = sym (all-miss (roleMarked (block (c .before .before .before .before .before .args .words .now) (c .before .before .before .before .before .args .base))) (c .before .before .before .before .before .args .t3) 0 (c .before .before .before .before .before .args .n) (c .before .before .before .loop .j) (c .before .before .loop-test .taken) (search needs) (sym (c .before .role-marked .ensures) ∙ not-true _ (c .if1 .taken)))
+returns c = sym (all-miss (roleMarked (has (c .before .before .before .before .before .args .own .now))) (c .before .before .before .before .before .args .t2) 0 (c .before .before .before .before .before .args .n) (c .before .before .before .loop .j) (c .before .before .loop-test .taken) (search needs) (sym (c .before .role-marked .ensures) ∙ not-true _ (c .if1 .taken)))
 
 add-j : tie.Need-add-j Inv-loop μ-loop
 add-j c = search needs
@@ -40,12 +40,12 @@ loop-less : tie.Need-loop-less Inv-loop μ-loop
 loop-less c = search needs
 
 loop-again : tie.Need-loop-again Inv-loop μ-loop
-loop-again c = (search needs, all-next (roleMarked (block (c .before .before .before .before .before .args .words .now) (c .before .before .before .before .before .args .base))) (c .before .before .before .before .before .args .t3) 0 (c .before .before .before .loop .j) (search needs) (c .before .before .before .loop .inv .1) (sym (c .before .role-marked .ensures) ∙ not-false _ (c .if1 .left)))
+loop-again c = (search needs, all-next (roleMarked (has (c .before .before .before .before .before .args .own .now))) (c .before .before .before .before .before .args .t2) 0 (c .before .before .before .loop .j) (search needs) (c .before .before .before .loop .inv .1) (sym (c .before .role-marked .ensures) ∙ not-false _ (c .if1 .left)))
 
 returns-2 : tie.Need-returns-2 Inv-loop μ-loop
 returns-2 c =
     let e : c .before .loop .j ≡ c .before .before .before .args .n = omega arith in
-    sym (c .before .loop .inv .1) ∙ ap (λ (m : ℕ). all (roleMarked (block (c .before .before .before .args .words .now) (c .before .before .before .args .base))) (take m (c .before .before .before .args .t3))) e
+    sym (c .before .loop .inv .1) ∙ ap (λ (m : ℕ). all (roleMarked (has (c .before .before .before .args .own .now))) (take m (c .before .before .before .args .t2))) e
 
 pub all-marked-spec : {M : Type 1} → statement M
 all-marked-spec =

@@ -3,22 +3,23 @@ use Prim.Native.Nat.{ℕ, _≤_, _-_}
 use mathlib.Core.Path.{_≡_, refl, ap, _∙_, subst, subst⁻¹}
 use mathlib.Core.List.{List, []}
 use native.Mathlib.Omega.{arith}
-use lib.ListN.{length}
+use mathlib.Core.Bool.{Bool, true}
+use lib.ListN.{length, length-set}
 use Rattle.model.specs.Layout.{decode, rowCount}
 use Rattle.model.specs.declared.Row.{Row}
 use Rattle.table.specs.Entries.{firstRows}
-use Rattle.index.specs.Indexed.{Own}
-use Rattle.index.proofs.Indexing.{row-in-range}
+use Rattle.index.specs.Owned.{Own}
+use Rattle.index.proofs.Owning.{row-in-range}
 use Rattle.index.proofs.Owning.{own-none, roles-on, roles-past}
 use borrow.Author.Needs.{needs}
 use Rattle.index.proofs.mark_roles.Statement.{statement}
 use Rattle.index.proofs.mark_roles.Tie as tie
 
 abbrev Inv-loop : tie.InvT-loop
-Inv-loop state user words₀ n i₀ words i = (i ≤ rowCount state) × (length words ≡ length words₀) × Own user words (firstRows state i) []
+Inv-loop state user own₀ n i₀ own i = (i ≤ rowCount state) × (length own ≡ length own₀) × Own user own (firstRows state i) []
 
 abbrev μ-loop : tie.MeasureT-loop
-μ-loop state user words₀ n i₀ words i = rowCount state - i
+μ-loop state user own₀ n i₀ own i = rowCount state - i
 
 shared-slice-read-wide : tie.Need-shared-slice-read-wide Inv-loop μ-loop
 shared-slice-read-wide c = omega (arith, c .before .before .before .pre .0 .sized .size)
@@ -28,7 +29,7 @@ wide-requires c κs = search needs
 
 loop-holds : tie.Need-loop-holds Inv-loop μ-loop
 unfolding firstRows
-loop-holds c = (search needs, refl, subst⁻¹ (λ (l : List ℕ). Own (c .before .before .before .before .args .user) l [] []) (c .before .before .before .before .pre .1) (own-none (c .before .before .before .before .args .user)))
+loop-holds c = (search needs, refl, subst⁻¹ (λ (l : List Bool). Own (c .before .before .before .before .args .user) l [] []) (c .before .before .before .before .pre .1) (own-none (c .before .before .before .before .args .user)))
 
 row-at-requires : tie.Need-row-at-requires Inv-loop μ-loop
 row-at-requires c κs = (c .before .before .before .before .before .before .pre .0 .sized .size, omega (arith, c .before .before .wide .ensures, c .before .before .before .before .before .before .pre .0 .sized .rows))
@@ -39,17 +40,17 @@ add-i c = search needs
 wide-requires-2 : tie.Need-wide-requires-2 Inv-loop μ-loop
 wide-requires-2 c κs = search needs
 
-mark-requires : tie.Need-mark-requires Inv-loop μ-loop
-mark-requires c κs = omega (arith, c .before .before .before .before .before .before .loop .inv .2 .room .inside, c .wide2 .ensures, ap (λ (x : Row). x .role) (c .before .before .before .before .row-at .ensures), row-in-range (c .before .before .before .before .before .before .before .before .before .before .before .args .state .now) (c .before .before .before .before .before .before .before .before .before .before .before .pre .0) (c .before .before .before .before .before .before .loop .i) (omega (arith, c .before .before .before .before .before .before .before .wide .ensures)) .1)
+slice-write-own : tie.Need-slice-write-own Inv-loop μ-loop
+slice-write-own c = omega (arith, c .before .before .before .before .before .loop .inv .2 .size, c .wide2 .ensures, ap (λ (x : Row). x .role) (c .before .before .before .row-at .ensures), row-in-range (c .before .before .before .before .before .before .before .before .before .before .args .state .now) (c .before .before .before .before .before .before .before .before .before .before .pre .0) (c .before .before .before .before .before .loop .i) (omega (arith, c .before .before .before .before .before .before .wide .ensures)) .1)
 
 loop-less : tie.Need-loop-less Inv-loop μ-loop
-loop-less c = omega (arith, c .before .before .before .before .before .before .before .before .before .before .wide .ensures)
+loop-less c = omega (arith, c .before .before .before .before .before .before .wide .ensures)
 
 loop-again : tie.Need-loop-again Inv-loop μ-loop
 loop-again c = (
-  omega (arith, c .before .before .before .before .before .before .before .before .before .before .wide .ensures),
-  c .before .before .mark .ensures .size ∙ c .before .before .before .before .before .before .before .before .before .loop .inv .1,
-  roles-on (c .before .before .before .before .before .before .before .before .before .before .before .before .before .before .args .state .now) (c .before .before .before .before .before .before .before .before .before .loop .words) (c .before .before .before .before .before .before .before .before .before .before .before .before .before .before .args .user) (c .before .before .before .before .before .before .before .before .before .loop .i) [] (c .before .before .before .before .before .before .before .row-at .result) (c .before .before .before .before .before .before .before .row-at .ensures) (c .before .before .before .before .before .before .before .before .before .loop .inv .2) _ (c .before .before .before .wide2 .result) (c .before .before .before .before .before .before .before .before .before .before .before .before .before .before .pre .0) (omega (arith, c .before .before .before .before .before .before .before .before .before .before .wide .ensures)) (c .before .before .before .before .before .if1 .taken) (c .before .before .before .wide2 .ensures) (c .before .before .mark .ensures),
+  omega (arith, c .before .before .before .before .before .before .wide .ensures),
+  length-set (c .before .before .before .before .before .loop .own) (c .wide2 .result) true ∙ c .before .before .before .before .before .loop .inv .1,
+  roles-on (c .before .before .before .before .before .before .before .before .before .before .args .state .now) (c .before .before .before .before .before .loop .own) (c .before .before .before .before .before .before .before .before .before .before .args .user) (c .before .before .before .before .before .loop .i) [] (c .before .before .before .row-at .result) (c .before .before .before .row-at .ensures) (c .before .before .before .before .before .loop .inv .2) (c .wide2 .result) (c .before .before .before .before .before .before .before .before .before .before .pre .0) (omega (arith, c .before .before .before .before .before .before .wide .ensures)) (c .before .if1 .taken) (c .wide2 .ensures),
 )
 
 loop-less-2 : tie.Need-loop-less-2 Inv-loop μ-loop
@@ -59,7 +60,7 @@ loop-again-2 : tie.Need-loop-again-2 Inv-loop μ-loop
 loop-again-2 c = (
   omega (arith, c .before .before .before .before .before .wide .ensures),
   c .before .before .before .before .loop .inv .1,
-  roles-past (c .before .before .before .before .before .before .before .before .before .args .state .now) (c .before .before .before .before .loop .words) (c .before .before .before .before .before .before .before .before .before .args .user) (c .before .before .before .before .loop .i) [] (c .before .before .row-at .result) (c .before .before .row-at .ensures) (c .before .before .before .before .loop .inv .2) (c .if1 .left),
+  roles-past (c .before .before .before .before .before .before .before .before .before .args .state .now) (c .before .before .before .before .loop .own) (c .before .before .before .before .before .before .before .before .before .args .user) (c .before .before .before .before .loop .i) [] (c .before .before .row-at .result) (c .before .before .row-at .ensures) (c .before .before .before .before .loop .inv .2) (c .if1 .left),
 )
 
 same-length : tie.Need-same-length Inv-loop μ-loop
@@ -67,7 +68,7 @@ same-length c = c .before .loop .inv .1
 
 returns : tie.Need-returns Inv-loop μ-loop
 unfolding decode firstRows
-returns c = let e : c .before .loop .i ≡ rowCount (c .before .before .before .before .before .before .args .state .now) = omega (arith, c .before .before .wide .ensures) in subst (λ (n : ℕ). Own (c .before .before .before .before .before .before .args .user) (c .before .loop .words) (firstRows (c .before .before .before .before .before .before .args .state .now) n) []) e (c .before .loop .inv .2)
+returns c = let e : c .before .loop .i ≡ rowCount (c .before .before .before .before .before .before .args .state .now) = omega (arith, c .before .before .wide .ensures) in subst (λ (n : ℕ). Own (c .before .before .before .before .before .before .args .user) (c .before .loop .own) (firstRows (c .before .before .before .before .before .before .args .state .now) n) []) e (c .before .loop .inv .2)
 
 pub mark-roles-spec : {M : Type 1} → statement M
 mark-roles-spec =
@@ -81,7 +82,7 @@ mark-roles-spec =
     row-at-requires
     add-i
     wide-requires-2
-    mark-requires
+    slice-write-own
     loop-less
     loop-again
     loop-less-2

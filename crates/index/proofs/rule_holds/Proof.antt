@@ -1,6 +1,6 @@
 use mathlib.Core.Path.{ap, _∙_}
 use Prim.Native.Nat.{ℕ, min}
-use Rattle.index.specs.Marked.{block}
+use Rattle.index.specs.Marked.{has}
 use Rattle.index.proofs.Holding.{first-by}
 use borrow.Author.Needs.{needs}
 use Rattle.index.proofs.rule_holds.Statement.{statement}
@@ -17,7 +17,7 @@ all-conditions-hold-requires c κs = search needs
 
 returns : tie.Need-returns
 returns c =
-    first-by (block (c .before .before .before .before .before .before .before .args .words .now) (c .before .before .before .before .before .before .before .args .base)) (c .before .before .before .before .before .before .before .args .kinds .now) (c .before .before .before .before .before .before .before .args .state .now) (c .before .least .result) (c .before .before .before .before .before .before .before .args .rule .n) (c .before .before .before .before .before .before .before .args .rule .conditions) (c .all-conditions-hold .result)
+    first-by (has (c .before .before .before .before .before .before .before .args .own .now)) (c .before .before .before .before .before .before .before .args .kinds .now) (c .before .before .before .before .before .before .before .args .state .now) (c .before .least .result) (c .before .before .before .before .before .before .before .args .rule .n) (c .before .before .before .before .before .before .before .args .rule .conditions) (c .all-conditions-hold .result)
     (search needs)
     (c .before .least .ensures ∙ ap (λ (n : ℕ). min n 8) (c .before .before .wide .ensures))
     (c .all-conditions-hold .ensures)

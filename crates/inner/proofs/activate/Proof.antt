@@ -58,7 +58,7 @@ slice-aggregate-lowest-satisfied : tie.Need-slice-aggregate-lowest-satisfied
 slice-aggregate-lowest-satisfied c = search needs
 
 lowest-satisfied-requires : tie.Need-lowest-satisfied-requires
-lowest-satisfied-requires c κs = (sound-sized _ (c .before .before .before .before .before .before .before .before .before .before .before .before .before .before .before .before .before .before .before .args .state .now) (c .before .before .before .before .before .before .before .before .before .before .before .before .before .before .before .before .before .before .before .pre), c .before .before .before .mark-kinds .ensures .room)
+lowest-satisfied-requires c κs = (sound-sized _ (c .before .before .before .before .before .before .before .before .before .before .before .before .before .before .before .before .before .before .before .args .state .now) (c .before .before .before .before .before .before .before .before .before .before .before .before .before .before .before .before .before .before .before .pre), c .before .before .before .mark-kinds .ensures .size)
 
 refused-requires-4 : tie.Need-refused-requires-4
 refused-requires-4 c κs = search needs

@@ -9,7 +9,7 @@ use lib.ListN.{length}
 use borrow.Author.Tests.{eq-eqb, ne-eqb}
 use Rattle.model.specs.Lists.{any}
 use Rattle.model.specs.Layout.{policyOf, ruleFrom}
-use Rattle.index.specs.Marked.{block, satisfiedBy}
+use Rattle.index.specs.Marked.{has, satisfiedBy}
 use Rattle.model.specs.declared.Rule.{Rule}
 use Rattle.table.specs.Entries.{entries, ruleAt, worldAt}
 use Rattle.table.proofs.Entries.{any-next}
@@ -19,14 +19,14 @@ use borrow.Author.Needs.{needs}
 use Rattle.inner.proofs.lowest_satisfied.Statement.{statement}
 use Rattle.inner.proofs.lowest_satisfied.Tie as tie
 
-abbrev test : List ℕ → List ℕ → List ℕ → List ℕ → ℕ → Rule → Bool
-test rules kinds s words q = satisfiedBy (block words 0) (worldAt rules kinds s) q
+abbrev test : List ℕ → List ℕ → List ℕ → List Bool → ℕ → Rule → Bool
+test rules kinds s own q = satisfiedBy (has own) (worldAt rules kinds s) q
 
 abbrev Inv-loop : tie.InvT-loop
-Inv-loop rules kinds state words role n i₀ i = (i ≤ n) × (any (test rules kinds state words role) (entries ruleFrom 11 rules i) ≡ false)
+Inv-loop rules kinds state own role n i₀ i = (i ≤ n) × (any (test rules kinds state own role) (entries ruleFrom 11 rules i) ≡ false)
 
 abbrev μ-loop : tie.MeasureT-loop
-μ-loop rules kinds state words role n i₀ i = n - i
+μ-loop rules kinds state own role n i₀ i = n - i
 
 loop-holds : tie.Need-loop-holds Inv-loop μ-loop
 loop-holds c = (search needs, refl)
@@ -40,8 +40,8 @@ rule-holds-requires c κs = search needs
 returns : tie.Need-returns Inv-loop μ-loop
 unfolding policyOf ruleAt
 returns c =
-    sym (first-hit ruleFrom 11 (test (c .before .before .before .before .before .before .before .before .before .before .before .args .rules .now) (c .before .before .before .before .before .before .before .before .before .before .before .args .kinds .now) (c .before .before .before .before .before .before .before .before .before .before .before .args .state .now) (c .before .before .before .before .before .before .before .before .before .before .before .args .words .now) (c .before .before .before .before .before .before .before .before .before .before .before .args .role)) (c .before .before .before .before .before .before .before .before .before .before .before .args .rules .now) (length (c .before .before .before .before .before .before .before .before .before .before .before .args .rules .now) / 11) (c .before .before .before .before .before .before .loop .i) (search needs) (c .before .before .before .before .before .before .loop .inv .1)
-    (sym (rule-by (block (c .before .before .before .before .before .before .before .before .before .before .before .args .words .now) 0) (c .before .before .before .before .before .before .before .before .before .before .before .args .rules .now) (c .before .before .before .before .before .before .before .before .before .before .before .args .kinds .now) (c .before .before .before .before .before .before .before .before .before .before .before .args .state .now) (c .before .before .before .before .before .before .before .before .before .before .before .args .role) (ruleAt (c .before .before .before .before .before .before .before .before .before .before .before .args .rules .now) (c .before .before .before .before .before .before .loop .i)) (c .before .before .before .before .rule-at .result) (c .before .rule-holds .result) (c .before .before .before .before .rule-at .ensures) (eq-eqb _ _ (c .before .before .if1 .taken)) (c .before .rule-holds .ensures)) ∙ c .if2 .taken))
+    sym (first-hit ruleFrom 11 (test (c .before .before .before .before .before .before .before .before .before .before .before .args .rules .now) (c .before .before .before .before .before .before .before .before .before .before .before .args .kinds .now) (c .before .before .before .before .before .before .before .before .before .before .before .args .state .now) (c .before .before .before .before .before .before .before .before .before .before .before .args .own .now) (c .before .before .before .before .before .before .before .before .before .before .before .args .role)) (c .before .before .before .before .before .before .before .before .before .before .before .args .rules .now) (length (c .before .before .before .before .before .before .before .before .before .before .before .args .rules .now) / 11) (c .before .before .before .before .before .before .loop .i) (search needs) (c .before .before .before .before .before .before .loop .inv .1)
+    (sym (rule-by (has (c .before .before .before .before .before .before .before .before .before .before .before .args .own .now)) (c .before .before .before .before .before .before .before .before .before .before .before .args .rules .now) (c .before .before .before .before .before .before .before .before .before .before .before .args .kinds .now) (c .before .before .before .before .before .before .before .before .before .before .before .args .state .now) (c .before .before .before .before .before .before .before .before .before .before .before .args .role) (ruleAt (c .before .before .before .before .before .before .before .before .before .before .before .args .rules .now) (c .before .before .before .before .before .before .loop .i)) (c .before .before .before .before .rule-at .result) (c .before .rule-holds .result) (c .before .before .before .before .rule-at .ensures) (eq-eqb _ _ (c .before .before .if1 .taken)) (c .before .rule-holds .ensures)) ∙ c .if2 .taken))
 
 add-i : tie.Need-add-i Inv-loop μ-loop
 add-i c = search needs
@@ -53,10 +53,10 @@ loop-again : tie.Need-loop-again Inv-loop μ-loop
 unfolding ruleAt
 loop-again c = (
   search needs,
-  any-next ruleFrom 11 (test (c .before .before .before .before .before .before .before .before .before .args .rules .now) (c .before .before .before .before .before .before .before .before .before .args .kinds .now) (c .before .before .before .before .before .before .before .before .before .args .state .now) (c .before .before .before .before .before .before .before .before .before .args .words .now) (c .before .before .before .before .before .before .before .before .before .args .role)) (c .before .before .before .before .before .before .before .before .before .args .rules .now) (c .before .before .before .before .loop .i) (c .before .before .before .before .loop .inv .1)
+  any-next ruleFrom 11 (test (c .before .before .before .before .before .before .before .before .before .args .rules .now) (c .before .before .before .before .before .before .before .before .before .args .kinds .now) (c .before .before .before .before .before .before .before .before .before .args .state .now) (c .before .before .before .before .before .before .before .before .before .args .own .now) (c .before .before .before .before .before .before .before .before .before .args .role)) (c .before .before .before .before .before .before .before .before .before .args .rules .now) (c .before .before .before .before .loop .i) (c .before .before .before .before .loop .inv .1)
       (⊎-elim
-      (λ w. sym (rule-by (block (c .before .before .before .before .before .before .before .before .before .args .words .now) 0) (c .before .before .before .before .before .before .before .before .before .args .rules .now) (c .before .before .before .before .before .before .before .before .before .args .kinds .now) (c .before .before .before .before .before .before .before .before .before .args .state .now) (c .before .before .before .before .before .before .before .before .before .args .role) (ruleAt (c .before .before .before .before .before .before .before .before .before .args .rules .now) (c .before .before .before .before .loop .i)) (c .before .before .rule-at .result) (w .1 .result) (c .before .before .rule-at .ensures) (eq-eqb _ _ (w .0 .taken)) (w .1 .ensures)) ∙ w .2 .left)
-      (λ w. sym (another-by (block (c .before .before .before .before .before .before .before .before .before .args .words .now) 0) (c .before .before .before .before .before .before .before .before .before .args .rules .now) (c .before .before .before .before .before .before .before .before .before .args .kinds .now) (c .before .before .before .before .before .before .before .before .before .args .state .now) (c .before .before .before .before .before .before .before .before .before .args .role) (ruleAt (c .before .before .before .before .before .before .before .before .before .args .rules .now) (c .before .before .before .before .loop .i)) (c .before .before .rule-at .result) (c .before .before .rule-at .ensures) (ne-eqb _ _ (w .left))))
+      (λ w. sym (rule-by (has (c .before .before .before .before .before .before .before .before .before .args .own .now)) (c .before .before .before .before .before .before .before .before .before .args .rules .now) (c .before .before .before .before .before .before .before .before .before .args .kinds .now) (c .before .before .before .before .before .before .before .before .before .args .state .now) (c .before .before .before .before .before .before .before .before .before .args .role) (ruleAt (c .before .before .before .before .before .before .before .before .before .args .rules .now) (c .before .before .before .before .loop .i)) (c .before .before .rule-at .result) (w .1 .result) (c .before .before .rule-at .ensures) (eq-eqb _ _ (w .0 .taken)) (w .1 .ensures)) ∙ w .2 .left)
+      (λ w. sym (another-by (has (c .before .before .before .before .before .before .before .before .before .args .own .now)) (c .before .before .before .before .before .before .before .before .before .args .rules .now) (c .before .before .before .before .before .before .before .before .before .args .kinds .now) (c .before .before .before .before .before .before .before .before .before .args .state .now) (c .before .before .before .before .before .before .before .before .before .args .role) (ruleAt (c .before .before .before .before .before .before .before .before .before .args .rules .now) (c .before .before .before .before .loop .i)) (c .before .before .rule-at .result) (c .before .before .rule-at .ensures) (ne-eqb _ _ (w .left))))
       (c .if1 .came)),
 )
 
@@ -64,7 +64,7 @@ returns-2 : tie.Need-returns-2 Inv-loop μ-loop
 unfolding policyOf
 returns-2 c =
     let e : c .before .loop .i ≡ length (c .before .before .before .before .before .before .args .rules .now) / 11 = omega arith in
-    e ∙ sym (first-missing ruleFrom 11 (test (c .before .before .before .before .before .before .args .rules .now) (c .before .before .before .before .before .before .args .kinds .now) (c .before .before .before .before .before .before .args .state .now) (c .before .before .before .before .before .before .args .words .now) (c .before .before .before .before .before .before .args .role)) (c .before .before .before .before .before .before .args .rules .now) (length (c .before .before .before .before .before .before .args .rules .now) / 11) (ap (λ (n : ℕ). any (test (c .before .before .before .before .before .before .args .rules .now) (c .before .before .before .before .before .before .args .kinds .now) (c .before .before .before .before .before .before .args .state .now) (c .before .before .before .before .before .before .args .words .now) (c .before .before .before .before .before .before .args .role)) (entries ruleFrom 11 (c .before .before .before .before .before .before .args .rules .now) n)) (sym e) ∙ c .before .loop .inv .1))
+    e ∙ sym (first-missing ruleFrom 11 (test (c .before .before .before .before .before .before .args .rules .now) (c .before .before .before .before .before .before .args .kinds .now) (c .before .before .before .before .before .before .args .state .now) (c .before .before .before .before .before .before .args .own .now) (c .before .before .before .before .before .before .args .role)) (c .before .before .before .before .before .before .args .rules .now) (length (c .before .before .before .before .before .before .args .rules .now) / 11) (ap (λ (n : ℕ). any (test (c .before .before .before .before .before .before .args .rules .now) (c .before .before .before .before .before .before .args .kinds .now) (c .before .before .before .before .before .before .args .state .now) (c .before .before .before .before .before .before .args .own .now) (c .before .before .before .before .before .before .args .role)) (entries ruleFrom 11 (c .before .before .before .before .before .before .args .rules .now) n)) (sym e) ∙ c .before .loop .inv .1))
 
 pub lowest-satisfied-spec : {M : Type 1} → statement M
 lowest-satisfied-spec =
