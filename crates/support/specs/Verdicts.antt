@@ -1,6 +1,7 @@
 -- What is said of each active row in the pass from the first to the last.
 use Prim.Native.Nat.{ℕ, _≤_, _<_}
 use mathlib.Core.Path.{_≡_}
+use mathlib.Core.Logic.{_≢_}
 use mathlib.Core.Bool.{cond}
 use mathlib.Core.List.{List}
 use lib.ListN.{length, getD}
@@ -28,11 +29,12 @@ pub record Right (w : World) (s verdicts : List ℕ) : Type 0 where
   pub size : length verdicts ≡ 256
   pub said : (k : ℕ) → k < rowCount s → 0 < getD verdicts k 0 → getD verdicts k 0 ≡ verdictAt w s k
 
--- all that was said before is said still, and all rows of row i's user from i on are judged
+-- all that was said before is said still, all rows of row i's user from i on are judged, and of other users nothing is said anew
 pub record UserJudged (w : World) (s : List ℕ) (i : ℕ) (before after : List ℕ) : Type 0 where
   pub right : Right w s after
   pub still : (k : ℕ) → 0 < getD before k 0 → 0 < getD after k 0
   pub all-rows : (k : ℕ) → i ≤ k → k < rowCount s → rowAt s k .user ≡ rowAt s i .user → 0 < getD after k 0
+  pub others : (k : ℕ) → rowAt s k .user ≢ rowAt s i .user → getD after k 0 ≡ getD before k 0
 
 -- all rows are judged
 pub record Judged (w : World) (s verdicts : List ℕ) : Type 0 where
