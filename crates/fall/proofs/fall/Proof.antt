@@ -1,11 +1,10 @@
-use Prim.Native.Nat.{ℕ}
-use mathlib.Core.Path.{subst}
-use Rattle.model.specs.Conditions.{supported}
-use Rattle.table.specs.Entries.{worldAt}
-use Rattle.index.proofs.Indexing.{indexed-state}
-use Rattle.fall.specs.Changes.{Closed}
+use mathlib.Core.Path.{refl, sym, _∙_}
+use native.Mathlib.Omega.{arith}
+use Rattle.model.specs.Layout.{decode, rowCount}
+use Rattle.table.specs.Entries.{firstRows, worldAt}
+use Rattle.fall.specs.Changes.{isKept}
 use Rattle.fall.proofs.Form.{formed}
-use Rattle.fall.proofs.Swept.{swept-closed}
+use Rattle.fall.proofs.Swept.{swept-closed, none-left, staying-left}
 use borrow.Author.Needs.{needs}
 use Rattle.fall.proofs.fall.Statement.{statement}
 use Rattle.fall.proofs.fall.Tie as tie
@@ -16,26 +15,17 @@ slice-read-wide c = search needs
 wide-requires : tie.Need-wide-requires
 wide-requires c κs = search needs
 
-slice-aggregate-number-users : tie.Need-slice-aggregate-number-users
-slice-aggregate-number-users c = search needs
+returns : tie.Need-returns
+returns c = none-left _ (c .before .before .before .before .before .before .args .state .now) (formed (c .before .before .before .before .before .before .args .state .now) (c .before .before .before .before .before .before .pre .0)) (sym (c .before .wide .ensures) ∙ c .if1 .taken)
 
-number-users-requires : tie.Need-number-users-requires
-number-users-requires c κs = search needs
+slice-aggregate-judge-rows : tie.Need-slice-aggregate-judge-rows
+slice-aggregate-judge-rows c = search needs
 
-slice-aggregate-enter-certificates : tie.Need-slice-aggregate-enter-certificates
-slice-aggregate-enter-certificates c = search needs
-
-slice-aggregate-enter-certificates-2 : tie.Need-slice-aggregate-enter-certificates-2
-slice-aggregate-enter-certificates-2 c = search needs
-
-enter-certificates-requires : tie.Need-enter-certificates-requires
-enter-certificates-requires c κs = (c .before .before .before .before .before .before .before .before .before .before .before .before .pre .1, indexed-state (c .before .before .before .before .before .before .before .before .before .before .before .before .args .state .now) _ (c .before .before .before .before .number-users .ensures))
+judge-rows-requires : tie.Need-judge-rows-requires
+judge-rows-requires c κs = (c .before .before .before .before .before .before .before .before .pre .1, refl)
 
 slice-aggregate-sweep : tie.Need-slice-aggregate-sweep
 slice-aggregate-sweep c = search needs
-
-slice-aggregate-sweep-2 : tie.Need-slice-aggregate-sweep-2
-slice-aggregate-sweep-2 c = search needs
 
 sweep-requires : tie.Need-sweep-requires
 sweep-requires c κs = search needs
@@ -46,10 +36,11 @@ close-requires c κs = search needs
 same-length : tie.Need-same-length
 same-length c = search needs
 
-returns : tie.Need-returns
-returns c =
-    swept-closed (supported (worldAt (c .before .before .before .before .before .before .before .before .before .before .before .before .before .before .before .before .before .before .before .before .before .before .before .before .before .args .rules .now) (c .before .before .before .before .before .before .before .before .before .before .before .before .before .before .before .before .before .before .before .before .before .before .before .before .before .args .kinds .now) (c .before .before .before .before .before .before .before .before .before .before .before .before .before .before .before .before .before .before .before .before .before .before .before .before .before .args .state .now))) (c .before .before .before .before .before .before .before .before .before .before .before .before .before .before .before .before .before .before .before .before .before .before .before .before .before .args .state .now) (c .before .before .before .before .before .before .before .sweep .last .1 .1 .0) _ (c .before .before .before .before .before .before .before .sweep .result) (c .before .before .close .result) (formed (c .before .before .before .before .before .before .before .before .before .before .before .before .before .before .before .before .before .before .before .before .before .before .before .before .before .args .state .now) (c .before .before .before .before .before .before .before .before .before .before .before .before .before .before .before .before .before .before .before .before .before .before .before .before .before .pre .0)) (c .before .before .before .before .before .before .before .sweep .ensures)
-    (subst (λ (n : ℕ). Closed (c .before .before .before .before .before .before .before .sweep .last .1 .1 .0) (c .before .before .close .last .0) (c .before .before .before .before .before .before .before .sweep .result) n (c .before .before .close .result)) (c .before .before .before .before .before .before .before .before .before .before .before .before .before .before .before .before .before .before .before .before .wide .ensures) (c .before .before .close .ensures))
+returns-2 : tie.Need-returns-2
+unfolding decode firstRows
+returns-2 c =
+    swept-closed (isKept (c .before .before .before .before .before .before .before .before .before .before .judge-rows .last .1 .1 .1 .0)) _ (c .before .before .before .before .before .before .before .before .before .before .before .before .before .before .before .before .before .before .before .args .state .now) (c .before .before .before .before .before .before .sweep .last .0) (c .before .before .close .last .0) (c .before .before .before .before .before .before .before .before .before .before .before .before .before .before .wide .result) (c .before .before .before .before .before .before .sweep .result) (c .before .before .before .before .before .before .before .before .before .before .before .before .before .before .wide .result) (c .before .before .close .result) (formed (c .before .before .before .before .before .before .before .before .before .before .before .before .before .before .before .before .before .before .before .args .state .now) (c .before .before .before .before .before .before .before .before .before .before .before .before .before .before .before .before .before .before .before .pre .0)) (c .before .before .before .before .before .before .before .before .before .before .before .before .before .before .wide .ensures) (c .before .before .before .before .before .before .before .before .before .before .before .before .before .before .wide .ensures)
+    (staying-left (worldAt (c .before .before .before .before .before .before .before .before .before .before .before .before .before .before .before .before .before .before .before .args .rules .now) (c .before .before .before .before .before .before .before .before .before .before .before .before .before .before .before .before .before .before .before .args .kinds .now) (c .before .before .before .before .before .before .before .before .before .before .before .before .before .before .before .before .before .before .before .args .state .now)) (c .before .before .before .before .before .before .before .before .before .before .before .before .before .before .before .before .before .before .before .args .state .now) (c .before .before .before .before .before .before .before .before .before .before .judge-rows .last .1 .1 .1 .0) (c .before .before .before .before .before .before .before .before .before .before .judge-rows .ensures) (rowCount (c .before .before .before .before .before .before .before .before .before .before .before .before .before .before .before .before .before .before .before .args .state .now)) (omega arith)) (c .before .before .before .before .before .before .sweep .ensures) (c .before .before .close .ensures)
 
 pub fall-spec : {M : Type 1} → statement M
 fall-spec =
@@ -57,14 +48,11 @@ fall-spec =
     (tie.spec
     slice-read-wide
     wide-requires
-    slice-aggregate-number-users
-    number-users-requires
-    slice-aggregate-enter-certificates
-    slice-aggregate-enter-certificates-2
-    enter-certificates-requires
+    returns
+    slice-aggregate-judge-rows
+    judge-rows-requires
     slice-aggregate-sweep
-    slice-aggregate-sweep-2
     sweep-requires
     close-requires
     same-length
-    returns)
+    returns-2)
