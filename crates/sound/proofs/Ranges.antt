@@ -1,45 +1,31 @@
 -- What a sound state keeps of ranges.
 use Prim.Native.Nat.{ℕ, _/_, _≤_, _<_}
-use mathlib.Core.Path.{_≡_, refl, sym, _∙_}
-use mathlib.Core.Bool.{Bool, true, false, true≢false}
+use mathlib.Core.Path.{_≡_, subst}
+use mathlib.Core.Bool.{true}
 use mathlib.Core.List.{List, [], _++_}
 use native.Mathlib.Omega.{arith}
 use lib.Dec.{T, ltb→lt}
 use lib.ListN.{length}
 use Rattle.model.specs.Lists.{all, allOverEarlier}
-use Rattle.model.specs.Records.{Policy, World, worldOf}
+use Rattle.model.specs.Records.{Policy, worldOf}
 use Rattle.model.specs.Layout.{decode, policyOf, kindFrom}
-use Rattle.model.specs.Sound.{rowClauses, rowSound, certificateClauses, certificateSound, wellFormed, soundRecords, sound}
+use Rattle.model.specs.Sound.{rowSound, certificateClauses, certificateSound, wellFormed, soundRecords, sound}
 use Rattle.model.specs.declared.Row.{Row}
-use Rattle.model.proofs.Tests.{is-true, of-true, and-left, and-right, each, of-each, all-of, of-all, earlier-of}
+use Rattle.model.proofs.Tests.{is-true, of-true, and-left, and-right, each, all-of, earlier-of}
 use Rattle.table.specs.Entries.{Sized}
 use Rattle.table.proofs.Entries.{length-entries, sized}
-use Rattle.index.specs.Indexed.{InRange}
+use Rattle.index.specs.Owned.{InRange}
 use Rattle.policy.specs.Lent.{kindsOnly}
-use Rattle.sound.specs.Ranges.{rangeClauses, rowInRange, CertificatesInRange}
+use Rattle.sound.specs.Named.{nameClauses, rowNamed, CertificatesInRange}
+use Rattle.sound.proofs.Judged.{stays, rows-parts}
 
-row-range : (w : World) (earlier : List Row) (r : Row) → T (rowSound w earlier r) → T (rowInRange r)
-unfolding rowClauses rangeClauses
-row-range w earlier r t = let h = each (rowClauses w earlier r) t in of-each (rangeClauses r) (h .0, (h .1 .0, tt))
+row-bounds : (p : Policy) (r : Row) → T (rowNamed p r) → (r .user < 4096) × (r .role < 256)
+unfolding nameClauses
+row-bounds p r t = let h = each (nameClauses p r) t in (ltb→lt (r .user) 4096 (h .0), ltb→lt (r .role) 256 (h .1 .0))
 
-rows-range : (w : World) (rows : List Row) → T (allOverEarlier (rowSound w) [] rows) → T (all rowInRange rows)
-rows-range w rows t = of-all rowInRange rows (λ r m. let f = earlier-of (rowSound w) [] rows t r m in row-range w ([] ++ f .0) r (f .3))
-
--- rows out of range are not sound
-pub rows-out : (w : World) (rows : List Row) → all rowInRange rows ≡ false → allOverEarlier (rowSound w) [] rows ≡ false
-rows-out w rows e = go (allOverEarlier (rowSound w) [] rows) refl
-  where
-    go : (b : Bool) → allOverEarlier (rowSound w) [] rows ≡ b → allOverEarlier (rowSound w) [] rows ≡ false
-    go false q = q
-    go true q = absurd (true≢false (sym (is-true (all rowInRange rows) (rows-range w rows (of-true (allOverEarlier (rowSound w) [] rows) q))) ∙ e))
-
-row-bounds : (r : Row) → T (rowInRange r) → (r .user < 4096) × (r .role < 256)
-unfolding rangeClauses
-row-bounds r t = let h = each (rangeClauses r) t in (ltb→lt (r .user) 4096 (h .0), ltb→lt (r .role) 256 (h .1 .0))
-
--- the rows are in range, and the certificates
-pub ranges : (s : List ℕ) → Sized s → CertificatesInRange s → all rowInRange (decode s .rows) ≡ true → InRange s
-ranges s z c e = record { sized = z; rows = λ r m. row-bounds r (all-of rowInRange (decode s .rows) (of-true (all rowInRange (decode s .rows)) e) r m); certificates = c .each }
+-- the rows are named rightly, and the certificates are in range
+pub ranges : (p : Policy) (s : List ℕ) → Sized s → CertificatesInRange s → all (rowNamed p) (decode s .rows) ≡ true → InRange s
+ranges p s z c e = record { sized = z; rows = λ r m. row-bounds p r (all-of (rowNamed p) (decode s .rows) (of-true (all (rowNamed p) (decode s .rows)) e) r m); certificates = c .each }
 
 pub certificates-range : (p : Policy) (s : List ℕ) → length (p .kinds) ≤ 128 → allOverEarlier (certificateSound p) [] (decode s .certificates) ≡ true → CertificatesInRange s
 unfolding certificateClauses
@@ -66,4 +52,5 @@ sound-in-range p s few e =
     let r : T (soundRecords p (decode s)) = and-right (wellFormed s) (soundRecords p (decode s)) t in
     let a = and-left (allOverEarlier (certificateSound p) [] (decode s .certificates)) (allOverEarlier (rowSound (worldOf p (decode s))) [] (decode s .rows)) r in
     let b = and-right (allOverEarlier (certificateSound p) [] (decode s .certificates)) (allOverEarlier (rowSound (worldOf p (decode s))) [] (decode s .rows)) r in
-    ranges s (sized s (is-true (wellFormed s) f)) (certificates-range p s few (is-true (allOverEarlier (certificateSound p) [] (decode s .certificates)) a)) (is-true (all rowInRange (decode s .rows)) (rows-range (worldOf p (decode s)) (decode s .rows) b))
+    let n = and-left (all (rowNamed p) (decode s .rows)) (allOverEarlier (stays (worldOf p (decode s))) [] (decode s .rows)) (subst T (rows-parts (worldOf p (decode s)) (decode s .rows)) b) in
+    ranges p s (sized s (is-true (wellFormed s) f)) (certificates-range p s few (is-true (allOverEarlier (certificateSound p) [] (decode s .certificates)) a)) (is-true (all (rowNamed p) (decode s .rows)) n)

@@ -5,6 +5,7 @@ use mathlib.Core.Bool.{Bool, true, false, true≢false, _||_}
 use mathlib.Core.Logic.{_⊎_, inl, inr}
 use mathlib.Core.List.{List, [], _∷_, _++_, List·Memᴰ, List·Memᴰ·not-nil, List·Memᴰ·append-cases, List·Memᴰ·eq-of-singleton}
 use lib.Dec.{T, eqb, eqb→eq}
+use lib.ListN.{replicate, length-replicate}
 use borrow.Author.Tests.{eq-eqb}
 use Rattle.model.specs.Lists.{any}
 use Rattle.model.specs.Sound.{sameCertificate}
@@ -14,17 +15,16 @@ use Rattle.model.proofs.Tests.{or-later, of-true, any-of, each}
 use Rattle.table.specs.Entries.{certificateAt, firstCertificates}
 use Rattle.table.proofs.Entries.{entries-more}
 use Rattle.marks.specs.Marks.{marked, Marked}
-use Rattle.index.proofs.Indexing.{zeros, length-zeros}
 use Rattle.sound.specs.Traces.{trace, Traced}
 
-pub traced-none : Traced (zeros 1024) []
-traced-none = record { size = length-zeros 1024; left = λ c m. absurd (List·Memᴰ·not-nil m) }
+pub traced-none : Traced (replicate 1024 0) []
+traced-none = record { size = length-replicate {A = ℕ} 1024 0; left = λ c m. absurd (List·Memᴰ·not-nil m) }
 
 -- equal certificates leave the same trace
 same-trace : (c d : Certificate) → T (sameCertificate c d) → trace c ≡ trace d
 same-trace c d t =
     let h = each (eqb (c .appointee) (d .appointee) ∷ eqb (c .kind) (d .kind) ∷ eqb (c .appointer) (d .appointer) ∷ []) t in
-    λ i. (eqb→eq (c .appointee) (d .appointee) (h .0) i * 128 + (eqb→eq (c .kind) (d .kind) (h .1 .0) i + eqb→eq (c .appointer) (d .appointer) (h .1 .1 .0) i * 61)) % 16384
+    λ i. (eqb→eq (c .appointee) (d .appointee) (h .0) i * 129 + (eqb→eq (c .kind) (d .kind) (h .1 .0) i + eqb→eq (c .appointer) (d .appointer) (h .1 .1 .0) i * 61)) % 16384
 
 pub untraced : (traces : List ℕ) (certificates : List Certificate) (c : Certificate) → Traced traces certificates → marked traces (trace c) ≡ false → any (sameCertificate c) certificates ≡ false
 untraced traces certificates c t e = go (any (sameCertificate c) certificates) refl
