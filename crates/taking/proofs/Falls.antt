@@ -29,7 +29,7 @@ use Rattle.model.proofs.Kept.{sound-certificates, fact-fits, certificates-fit}
 use Rattle.table.specs.Entries.{worldAt, withoutRights}
 use Rattle.table.proofs.Entries.{sized}
 use Rattle.table.proofs.Worlds.{supported-same}
-use Rattle.index.specs.Indexed.{InRange}
+use Rattle.index.specs.Owned.{InRange}
 use Rattle.fall.specs.Changes.{Left}
 use Rattle.inner.specs.Lent.{lent, Answers}
 use Rattle.inner.proofs.Codes.{own-decide, own-refuses, own-accepts, out-of-range, in-range, found, certificate-length, some-kind}
