@@ -19,7 +19,7 @@ use Rattle.model.specs.declared.Certificate.{Certificate}
 use Rattle.model.proofs.Tests.{lt-or-ge}
 use Rattle.model.proofs.Meaning.{meant-role, meant-kind, meant-fact, meant-nothing}
 use Rattle.table.specs.Entries.{withoutRights, worldAt}
-use Rattle.table.proofs.Worlds.{take-least}
+use Rattle.table.proofs.Entries.{take-least}
 use Rattle.index.specs.Marked.{roleMarked, holdsBy, allHoldBy, supportedBy, satisfiedBy}
 
 -- ── what is not read: of the policy, only the kinds ──

@@ -13,7 +13,7 @@ use Rattle.model.specs.declared.Kind.{Kind}
 use Rattle.model.proofs.Tests.{lt-or-ge}
 use Rattle.model.proofs.Meaning.{meant-role, meant-kind, meant-fact, meant-nothing}
 use Rattle.table.specs.Entries.{withoutRights}
-use Rattle.table.proofs.Worlds.{take-least}
+use Rattle.table.proofs.Entries.{take-least}
 
 -- ── what a condition asks for ──
 
