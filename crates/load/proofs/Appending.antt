@@ -1,5 +1,5 @@
 -- One row more of a table, number by number, and a line of the policy as a row.
-use Prim.Native.Nat.{ℕ, zero, suc, _+_, _-_, _*_, _≤_, _<_}
+use Prim.Native.Nat.{ℕ, suc, _+_, _-_, _*_, _≤_, _<_}
 use mathlib.Core.Path.{_≡_, sym, ap, _∙_}
 use mathlib.Core.Bool.{Bool, true, false, cond, true≢false}
 use mathlib.Core.Logic.{_≢_, _⊎_, inl, inr}
@@ -7,12 +7,13 @@ use mathlib.Core.List.{List, [], _∷_, _++_, append-nil, append-assoc}
 use native.Mathlib.Omega.{arith}
 use native.Mathlib.Numerals.{add-one}
 use lib.Dec.{eqb, ltb}
-use lib.ListN.{length, getD, take, drop, set}
-use lib.Seq.{take-suc, take-suc-set, drop-cons, drop-length}
+use lib.ListN.{length, getD, take, drop, set, length-drop}
+use lib.Seq.{take-suc, take-suc-set, take-all}
 use borrow.Author.Tests.{ne-eqb, ltb-true}
 use Rattle.model.specs.Records.{Tables}
 use Rattle.model.specs.Layout.{number}
 use Rattle.model.proofs.Tests.{lt-or-ge}
+use Rattle.model.proofs.Numbers.{cells, part-cells}
 use Rattle.program.specs.Program.{ruleRow, kindRow, rightRow, withRow}
 use Rattle.program.specs.declared.Line.{Line}
 use Rattle.load.specs.Rows.{tablesOf, hasRoom}
@@ -34,23 +35,17 @@ none-yet table row at = let e : at + 0 ≡ at = omega arith in ap (λ (n : ℕ).
 
 -- ── the numbers of a line, one by one ──
 
-abbrev from : List ℕ → ℕ → ℕ → List ℕ
-from l k zero = []
-from l k (suc n) = getD l k 0 ∷ from l (suc k) n
-
-from-place : (l : List ℕ) (k n : ℕ) → k + n ≡ length l → drop k l ≡ from l k n
-from-place l k zero e = let z : k ≡ length l = omega arith in ap (λ (i : ℕ). drop i l) z ∙ drop-length l
-from-place l k (suc n) e = drop-cons l k 0 (omega arith) ∙ ap (λ (r : List ℕ). getD l k 0 ∷ r) (from-place l (suc k) n (omega arith))
-
 module _ (l : Line) (ten : length (l .numbers) ≡ 10) where
-  pub rule-row : number (l .numbers) 0 ∷ (l .count - 2) ∷ number (l .numbers) 1 ∷ from (l .numbers) 2 8 ≡ ruleRow l
-  rule-row = λ i. number (l .numbers) 0 ∷ (l .count - 2) ∷ number (l .numbers) 1 ∷ sym (from-place (l .numbers) 2 8 (omega (arith, ten))) i
+  pub rule-row : number (l .numbers) 0 ∷ (l .count - 2) ∷ number (l .numbers) 1 ∷ cells (l .numbers) 0 2 8 ≡ ruleRow l
+  rule-row =
+      let rest : drop 2 (l .numbers) ≡ cells (l .numbers) 0 2 8 = sym (take-all 8 (drop 2 (l .numbers)) (simp length-drop (omega (arith, ten)))) ∙ part-cells (l .numbers) 0 2 8 (omega (arith, ten)) in
+      λ i. number (l .numbers) 0 ∷ (l .count - 2) ∷ number (l .numbers) 1 ∷ sym rest i
 
-  pub kind-row : number (l .numbers) 0 ∷ number (l .numbers) 1 ∷ (l .count - 2) ∷ from (l .numbers) 2 4 ≡ kindRow l
-  kind-row = λ i. number (l .numbers) 0 ∷ number (l .numbers) 1 ∷ (l .count - 2) ∷ take 4 (sym (from-place (l .numbers) 2 8 (omega (arith, ten))) i)
+  pub kind-row : number (l .numbers) 0 ∷ number (l .numbers) 1 ∷ (l .count - 2) ∷ cells (l .numbers) 0 2 4 ≡ kindRow l
+  kind-row = λ i. number (l .numbers) 0 ∷ number (l .numbers) 1 ∷ (l .count - 2) ∷ sym (part-cells (l .numbers) 0 2 4 (omega (arith, ten))) i
 
-  pub right-row : from (l .numbers) 0 2 ≡ rightRow l
-  right-row = ap (take 2) (sym (from-place (l .numbers) 0 10 (omega (arith, ten))))
+  pub right-row : cells (l .numbers) 0 0 2 ≡ rightRow l
+  right-row = sym (part-cells (l .numbers) 0 0 2 (omega (arith, ten)))
 
 -- ── one row more of one table ──
 

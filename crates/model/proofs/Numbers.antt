@@ -19,6 +19,20 @@ use Rattle.model.specs.declared.Certificate.{Certificate}
 use Rattle.model.specs.Words.{Fits, SoundState}
 use Rattle.model.proofs.Tests.{and-left, and-right, and-both, each, of-each}
 
+-- ── numbers one by one ──
+
+-- the n numbers of a list from place b + k on
+abbrev pub cells : List ℕ → ℕ → ℕ → ℕ → List ℕ
+cells l b k zero = []
+cells l b k (suc n) = getD l (b + k) 0 ∷ cells l b (suc k) n
+
+pub part-cells : (l : List ℕ) (b k n : ℕ) → b + k + n ≤ length l → take n (drop (b + k) l) ≡ cells l b k n
+part-cells l b k zero h = refl
+part-cells l b k (suc n) h =
+    let e : suc (b + k) ≡ b + suc k = omega arith in
+    ap (take (suc n)) (drop-cons l (b + k) 0 (omega arith))
+    ∙ (λ i. getD l (b + k) 0 ∷ (ap (λ (p : ℕ). take n (drop p l)) e ∙ part-cells l b (suc k) n (omega arith)) i)
+
 -- ── rows of one width ──
 
 pub length-rows : (w n : ℕ) (l : List ℕ) → length (rowsOf w n l) ≡ n

@@ -10,12 +10,12 @@ use native.Mathlib.Nat.{suc-mul, zero-mul, add-comm}
 use native.Mathlib.Numerals.{add-one}
 use lib.Dec.{T}
 use lib.ListN.{length, getD, take, drop, length-drop, List·getD-eq-default, length-map}
-use lib.Seq.{getD-take, getD-drop, drop-drop, take-suc, ext-getD, length-take-le, take-all}
+use lib.Seq.{getD-take, getD-drop, drop-drop, drop-at, take-suc, take-add, length-take-le, take-all}
 use Rattle.model.specs.Lists.{any, all, rowsOf}
 use Rattle.model.specs.Layout.{rowFrom, rowNumbers}
 use Rattle.model.specs.Sound.{wellFormed}
 use Rattle.model.proofs.Tests.{lt-or-ge, all-append, at-place, is-true, of-true, any-append, of-any, all-of, among-first}
-use Rattle.model.proofs.Numbers.{length-rows, formed-size, formed-rows, formed-certificates}
+use Rattle.model.proofs.Numbers.{cells, part-cells, length-rows, formed-size, formed-rows, formed-certificates}
 use Rattle.table.specs.Entries.{entry, entries, ruleAt, kindAt, rightAt, rowAt, firstRows, certificateAt, Sized}
 
 -- ── one entry more ──
@@ -97,28 +97,13 @@ take-least m n l e = go (lt-or-ge m n)
     go (inl h) = let q : min m n ≡ m = omega arith in ap (λ (k : ℕ). take k l) q
     go (inr h) = take-all (min m n) l (omega arith) ∙ sym (take-all m l (omega arith))
 
--- the n numbers of a list from place b + k on, one by one
-abbrev cells : List ℕ → ℕ → ℕ → ℕ → List ℕ
-cells l b k zero = []
-cells l b k (suc n) = getD l (b + k) 0 ∷ cells l b (suc k) n
-
-length-cells : (l : List ℕ) (b k n : ℕ) → length (cells l b k n) ≡ n
-length-cells l b k zero = refl
-length-cells l b k (suc n) = ap suc (length-cells l b (suc k) n)
-
-cell : (l : List ℕ) (b k n i : ℕ) → i < n → getD (cells l b k n) i 0 ≡ getD l (b + (k + i)) 0
-cell l b k zero i h = absurd (omega arith)
-cell l b k (suc n) zero h = let e : b + k ≡ b + (k + 0) = omega arith in ap (λ (p : ℕ). getD l p 0) e
-cell l b k (suc n) (suc i) h = let e : b + (suc k + i) ≡ b + (k + suc i) = omega arith in cell l b (suc k) n i (omega arith) ∙ ap (λ (p : ℕ). getD l p 0) e
-
 -- a whole row, without its first k numbers
-row-cells : (l : List ℕ) (b k n : ℕ) → b + (k + n) ≤ length l → drop k (take (k + n) (drop b l)) ≡ cells l b k n
+row-cells : (l : List ℕ) (b k n : ℕ) → b + k + n ≤ length l → drop k (take (k + n) (drop b l)) ≡ cells l b k n
 row-cells l b k n h =
-    ext-getD 0 (drop k (take (k + n) (drop b l))) (cells l b k n)
-    (length-drop k (take (k + n) (drop b l)) ∙ omega (arith, length-take-le (k + n) (drop b l) (simp length-drop (omega arith)), length-cells l b k n))
-    (λ i m.
-    let j : i < n = omega (arith, length-drop k (take (k + n) (drop b l)), length-take-le (k + n) (drop b l) (simp length-drop (omega arith))) in
-    getD-drop k (take (k + n) (drop b l)) i 0 ∙ getD-take (k + n) (drop b l) (k + i) 0 (omega arith) ∙ getD-drop b l (k + i) 0 ∙ sym (cell l b k n i j))
+    ap (drop k) (take-add k n (drop b l))
+    ∙ drop-at (take k (drop b l)) (take n (drop k (drop b l))) k (length-take-le k (drop b l) (simp length-drop (omega arith)))
+    ∙ ap (take n) (drop-drop k b l)
+    ∙ part-cells l b k n h
 
 -- number k of a row
 row-number : (l : List ℕ) (b w k : ℕ) → k < w → getD (take w (drop b l)) k 0 ≡ getD l (b + k) 0
