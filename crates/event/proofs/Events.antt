@@ -8,16 +8,16 @@ use native.Mathlib.Omega.{arith}
 use lib.Dec.{T}
 use lib.ListN.{length, getD}
 use Rattle.model.specs.Records.{Tables}
-use Rattle.model.specs.Layout.{policyOf, number}
+use Rattle.model.specs.Layout.{policyOf}
 use Rattle.model.specs.Sound.{soundPolicy, sound}
 use Rattle.model.specs.Outcome.{Course, judgedFirst}
-use Rattle.model.specs.Calls.{Call, fresh, activate, appoint, revoke, withdraw, environment, logout, invoke, effective, courseOf, answer}
+use Rattle.model.specs.Calls.{Call, fresh, courseOf, answer}
 use Rattle.model.specs.Words.{Sound}
 use Rattle.model.specs.declared.Answer.{Answer}
 use Rattle.model.proofs.Tests.{lt-or-ge, of-true}
 use Rattle.model.proofs.Refusals.{refused-unchanged}
 use Rattle.model.proofs.Accepted.{accepted-sound}
-use Rattle.program.specs.Program.{lineCall}
+use Rattle.program.specs.Program.{eventCalls, lineCall}
 use Rattle.program.specs.declared.Line.{Line}
 use Rattle.inner.specs.Lent.{Answers}
 use Rattle.calls.proofs.Judged.{unsound, no-policy}
@@ -25,18 +25,9 @@ use Rattle.event.specs.SoundIf.{SoundIf}
 
 -- ── the call of a line ──
 
--- the calls of a line's numbers, in the words' order
-abbrev calls : Line → List Call
-calls l =
-    let a = number (l .numbers) 0 in
-    let b = number (l .numbers) 1 in
-    let c = number (l .numbers) 2 in
-    let d = number (l .numbers) 3 in
-    activate a b ∷ appoint a b c ∷ revoke a b c d ∷ withdraw a b c ∷ environment a b ∷ logout a ∷ invoke a b ∷ effective a b c ∷ []
-
-call-is : (l : Line) (w : ℕ) → l .word ≡ w → getD (calls l) (w - 3) fresh ≡ lineCall l
+call-is : (l : Line) (w : ℕ) → l .word ≡ w → getD (eventCalls l) (w - 3) fresh ≡ lineCall l
 unfolding lineCall
-call-is l w e = ap (λ (n : ℕ). getD (calls l) (n - 3) fresh) (sym e)
+call-is l w e = ap (λ (n : ℕ). getD (eventCalls l) (n - 3) fresh) (sym e)
 
 -- ── every event is judged first ──
 
@@ -54,7 +45,7 @@ call-at P (c ∷ cs) e d (suc i) h = call-at P cs (e .1) d i (omega arith)
 
 event-judged : (t : Tables) (s : List ℕ) (l : Line) → 3 ≤ l .word → l .word < 11 → JudgedFirst t s (lineCall l)
 unfolding lineCall courseOf
-event-judged t s l h k = call-at (JudgedFirst t s) (calls l) ((_, refl), ((_, refl), ((_, refl), ((_, refl), ((_, refl), ((_, refl), ((_, refl), ((_, refl), tt)))))))) fresh (l .word - 3) (omega arith)
+event-judged t s l h k = call-at (JudgedFirst t s) (eventCalls l) ((_, refl), ((_, refl), ((_, refl), ((_, refl), ((_, refl), ((_, refl), ((_, refl), ((_, refl), tt)))))))) fresh (l .word - 3) (omega arith)
 
 pub malformed-answers : (t : Tables) (s : List ℕ) (l : Line) → 3 ≤ l .word → l .word < 11 → soundPolicy t ≡ false → (r : Answer) → r .code ≡ 1 → r .second ≡ 0 → Answers t s (lineCall l) r s
 malformed-answers t s l h k e r a b =
@@ -74,5 +65,5 @@ pub both-sound : (t : Tables) (s : List ℕ) (sound-policy : Bool) → SoundIf t
 both-sound t s sound-policy h e = record { policy = of-true (soundPolicy t) (sym (h .policy) ∙ e); state = h .state }
 
 -- the answer of the call at a word's place is the line's
-pub answers-line : (t : Tables) (s s′ : List ℕ) (l : Line) (r : Answer) (w : ℕ) → l .word ≡ w → Answers t s (getD (calls l) (w - 3) fresh) r s′ → Answers t s (lineCall l) r s′
+pub answers-line : (t : Tables) (s s′ : List ℕ) (l : Line) (r : Answer) (w : ℕ) → l .word ≡ w → Answers t s (getD (eventCalls l) (w - 3) fresh) r s′ → Answers t s (lineCall l) r s′
 answers-line t s s′ l r w e a = subst (λ (c : Call). Answers t s c r s′) (call-is l w e) a

@@ -65,17 +65,18 @@ withRow t l =
       rights = cond (eqb (l .word) rightWord) (t .rights ++ rightRow l) (t .rights);
     }
 
--- the call that an event makes, by the words' order; a line of the policy makes none, and is not asked for one
-unfoldable pub lineCall : Line → Call
-lineCall l =
+-- the calls that events make of a line's numbers, in the words' order
+abbrev pub eventCalls : Line → List Call
+eventCalls l =
     let a = number (l .numbers) 0 in
     let b = number (l .numbers) 1 in
     let c = number (l .numbers) 2 in
     let d = number (l .numbers) 3 in
-    getD
-    (activate a b ∷ appoint a b c ∷ revoke a b c d ∷ withdraw a b c ∷ environment a b ∷ logout a ∷ invoke a b ∷ effective a b c ∷ [])
-    (l .word - policyWords)
-    fresh
+    activate a b ∷ appoint a b c ∷ revoke a b c d ∷ withdraw a b c ∷ environment a b ∷ logout a ∷ invoke a b ∷ effective a b c ∷ []
+
+-- the call that an event makes; a line of the policy makes none, and is not asked for one
+unfoldable pub lineCall : Line → Call
+lineCall l = getD (eventCalls l) (l .word - policyWords) fresh
 
 -- the table has its most rows
 abbrev pub isFull : ℕ → ℕ → List ℕ → Bool
