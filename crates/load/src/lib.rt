@@ -2,7 +2,7 @@
 // room.
 ghost use mathlib.Core.Path.{_≡_};
 ghost use mathlib.Core.List.{_++_};
-ghost use Prim.Native.Nat.{_+_, _*_, _<_, _≤_};
+ghost use Prim.Native.Nat.{_+_, _≤_};
 ghost use lib.ListN.{length, take};
 ghost use mathlib.Core.Bool.{true};
 ghost use Rattle.model.specs.Limits.{mostRules, mostKinds, mostRights};

@@ -8,7 +8,7 @@ use native.Mathlib.Omega.{arith}
 use lib.Dec.{T, eqb, ltb, lt→ltb, leb→le, T-not, not-T}
 use lib.ListN.{length, take, set, length-append, length-set}
 use Rattle.model.specs.Lists.{any, all, allOverEarlier, without, isBit}
-use Rattle.model.specs.Limits.{users, roles, facts, mostRows, mostCertificates}
+use Rattle.model.specs.Limits.{users, roles, mostRows, mostCertificates}
 use Rattle.model.specs.Records.{Tables, Policy, State, World, worldOf, withRows, withCertificates, withFact}
 use Rattle.model.specs.Layout.{policyOf}
 use Rattle.model.specs.Conditions.{ruleNumbered, activating, membership, meant, active, isRow, holds, satisfied, supported}

@@ -1,9 +1,7 @@
 -- Where a role of a user stands in the rows.
-use Prim.Native.Nat.{ℕ, zero, suc, _<_}
+use Prim.Native.Nat.{ℕ, zero, suc}
 use mathlib.Core.Bool.{cond}
 use mathlib.Core.List.{List}
-use Rattle.model.specs.Limits.{roles}
-use Rattle.model.specs.Layout.{rowCount}
 use Rattle.model.specs.Conditions.{isRow}
 use Rattle.table.specs.Entries.{rowAt}
 

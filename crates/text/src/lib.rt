@@ -1,7 +1,7 @@
 // The scanner: where records and fields of a lent text end, what a field says, and a record as a line. Nothing is copied but numbers.
 ghost use mathlib.Core.Path.{_≡_};
 ghost use mathlib.Core.Bool.{_&&_};
-ghost use Prim.Native.Nat.{_+_, _<_, _≤_};
+ghost use Prim.Native.Nat.{_<_, _≤_};
 ghost use lib.Dec.{leb};
 ghost use lib.ListN.{length, drop};
 ghost use Rattle.program.specs.Text.{isDigit, unquoted};

@@ -1,5 +1,5 @@
 use mathlib.Core.Path.{refl}
-use Rattle.model.specs.Calls.{chain, courseOf}
+use Rattle.model.specs.Calls.{courseOf}
 use Rattle.inner.specs.Lent.{lent}
 use Rattle.calls.proofs.Judged.{unsound, judged-sound}
 use borrow.Author.Needs.{needs}
