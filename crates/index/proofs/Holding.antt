@@ -17,27 +17,10 @@ use Rattle.model.specs.declared.Kind.{Kind}
 use Rattle.model.specs.declared.Row.{Row}
 use Rattle.model.specs.declared.Certificate.{Certificate}
 use Rattle.model.proofs.Tests.{lt-or-ge}
+use Rattle.model.proofs.Meaning.{meant-role, meant-kind, meant-fact, meant-nothing}
 use Rattle.table.specs.Entries.{withoutRights, worldAt}
-use Rattle.table.proofs.Worlds.{take-least}
+use Rattle.table.proofs.Entries.{take-least}
 use Rattle.index.specs.Marked.{roleMarked, holdsBy, allHoldBy, supportedBy, satisfiedBy}
-
--- ── what a number means ──
-
-pub meant-role : (c : ℕ) → c < 256 → meant c ≡ role c
-unfolding meant
-meant-role c h = rw (lt-ltb c 256 h) refl
-
-pub meant-kind : (c : ℕ) → 256 ≤ c → c < 384 → meant c ≡ kind (c - 256)
-unfolding meant
-meant-kind c h m = rw (le-ltb c 256 h, lt-ltb c 384 m) refl
-
-pub meant-fact : (c : ℕ) → 384 ≤ c → c < 448 → meant c ≡ fact (c - 384)
-unfolding meant
-meant-fact c h m = let k : 256 ≤ c = omega arith in rw (le-ltb c 256 k, le-ltb c 384 h, lt-ltb c 448 m) refl
-
-pub meant-nothing : (c : ℕ) → 448 ≤ c → meant c ≡ malformed
-unfolding meant
-meant-nothing c h = let k : 256 ≤ c = omega arith in let m : 384 ≤ c = omega arith in rw (le-ltb c 256 k, le-ltb c 384 m, le-ltb c 448 h) refl
 
 -- ── what is not read: of the policy, only the kinds ──
 

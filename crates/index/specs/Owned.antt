@@ -12,11 +12,14 @@ use Rattle.model.specs.declared.Certificate.{Certificate}
 use Rattle.table.specs.Entries.{Sized}
 use Rattle.index.specs.Marked.{has}
 
+abbrev pub CertificatesInRange : List ℕ → Type 0
+CertificatesInRange s = (c : Certificate) → List·Memᴰ c (decode s .certificates) → (c .appointee < users) × (c .kind < mostKinds)
+
 -- the ranges that a sound state keeps
 pub record InRange (s : List ℕ) : Type 0 where
   pub sized : Sized s
   pub rows : (r : Row) → List·Memᴰ r (decode s .rows) → (r .user < users) × (r .role < roles)
-  pub certificates : (c : Certificate) → List·Memᴰ c (decode s .certificates) → (c .appointee < users) × (c .kind < mostKinds)
+  pub certificates : CertificatesInRange s
 
 -- the marks say what these rows and certificates say of this user
 pub record Own (u : ℕ) (own : List Bool) (rows : List Row) (certificates : List Certificate) : Type 0 where

@@ -2,6 +2,7 @@ pub mod Cases
 pub mod Tests
 pub mod Parts
 pub mod Sweep
+pub mod Meaning
 pub mod Support
 pub mod Numbers
 pub mod Refusals

@@ -13,6 +13,7 @@ use Rattle.model.specs.Layout.{kindFrom, policyOf}
 use Rattle.model.specs.Conditions.{meant}
 use Rattle.model.specs.Sound.{conditionFits}
 use Rattle.model.proofs.Tests.{below, below-at, of-true, lt-or-ge}
+use Rattle.model.proofs.Meaning.{meant-role, meant-kind, meant-fact, meant-nothing}
 use Rattle.table.proofs.Entries.{length-entries}
 use Rattle.policy.specs.Lent.{kindsOnly}
 use Rattle.policy.specs.Counting.{Counting, Limits}
@@ -61,26 +62,26 @@ module _ (kinds : List ℕ) (few : length kinds / 7 ≤ 128) (c end : ℕ) (ends
   has-row = ap (ltb (c - 256)) (length-entries kindFrom 7 kinds (length kinds / 7))
 
   pub fits-low : c < end → true ≡ conditionFits (kindsOnly kinds) (meant c)
-  unfolding meant conditionFits
+  unfolding conditionFits
   fits-low l = go (lt-or-ge c 256)
     where
       go : (c < 256) ⊎ (256 ≤ c) → true ≡ conditionFits (kindsOnly kinds) (meant c)
-      go (inl h) = sym (rw (lt-ltb c 256 h) refl)
-      go (inr h) = sym (rw (le-ltb c 256 h, lt-ltb c 384 (omega arith)) (has-row ∙ lt-ltb (c - 256) (length kinds / 7) (omega arith)))
+      go (inl h) = sym (ap (conditionFits (kindsOnly kinds)) (meant-role c h))
+      go (inr h) = sym (ap (conditionFits (kindsOnly kinds)) (meant-kind c h (omega arith)) ∙ has-row ∙ lt-ltb (c - 256) (length kinds / 7) (omega arith))
 
   pub fits-high : end ≤ c → eqb (c / 64) 6 ≡ conditionFits (kindsOnly kinds) (meant c)
-  unfolding meant conditionFits
+  unfolding conditionFits
   fits-high l = go (lt-or-ge c 384) (lt-or-ge c 448)
     where
       go : (c < 384) ⊎ (384 ≤ c) → (c < 448) ⊎ (448 ≤ c) → eqb (c / 64) 6 ≡ conditionFits (kindsOnly kinds) (meant c)
-      go (inl h) d = ne-eqb (c / 64) 6 (λ e. omega (arith, e)) ∙ sym (rw (le-ltb c 256 (omega arith), lt-ltb c 384 h) (has-row ∙ le-ltb (c - 256) (length kinds / 7) (omega arith)))
-      go (inr h) (inl k) = eq-eqb (c / 64) 6 (omega arith) ∙ sym (rw (le-ltb c 256 (omega arith), le-ltb c 384 h, lt-ltb c 448 k) refl)
-      go (inr h) (inr k) = ne-eqb (c / 64) 6 (λ e. omega (arith, e)) ∙ sym (rw (le-ltb c 256 (omega arith), le-ltb c 384 h, le-ltb c 448 k) refl)
+      go (inl h) d = ne-eqb (c / 64) 6 (λ e. omega (arith, e)) ∙ sym (ap (conditionFits (kindsOnly kinds)) (meant-kind c (omega arith) h) ∙ has-row ∙ le-ltb (c - 256) (length kinds / 7) (omega arith))
+      go (inr h) (inl k) = eq-eqb (c / 64) 6 (omega arith) ∙ sym (ap (conditionFits (kindsOnly kinds)) (meant-fact c h k))
+      go (inr h) (inr k) = ne-eqb (c / 64) 6 (λ e. omega (arith, e)) ∙ sym (ap (conditionFits (kindsOnly kinds)) (meant-nothing c k))
 
 -- a condition of 0 fits
 pub unfit-not-zero : (kinds : List ℕ) (c : ℕ) → conditionFits (kindsOnly kinds) (meant c) ≡ false → c ≢ 0
-unfolding meant conditionFits
-unfit-not-zero kinds c e z = true≢false (sym (rw (lt-ltb c 256 (omega (arith, z))) refl) ∙ e)
+unfolding conditionFits
+unfit-not-zero kinds c e z = true≢false (sym (ap (conditionFits (kindsOnly kinds)) (meant-role c (omega (arith, z)))) ∙ e)
 
 -- ── what is wrong with a number ──
 

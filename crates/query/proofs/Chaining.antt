@@ -179,14 +179,14 @@ module _ (t : Tables) (s : List ℕ) (h : Sound t s) (u : ℕ) where
 pub filled : (list list′ : List ℕ) (n : ℕ) → n ≤ 256 → length list ≡ 256 → Zeroed list list′ n 256 → list′ ≡ filledTo 256 (take n list)
 filled list list′ n l size z =
     sym (take-append-drop n list′)
-    ∙ (λ j. front j ++ tell-down j)
+    ∙ (λ j. front j ++ behind j)
   where
     front : take n list′ ≡ take n list
     front =
         ext-getD 0 (take n list′) (take n list) (length-take n list′ ∙ ap (min n) (z .size) ∙ sym (length-take n list))
         (λ i m. let k : i < n = omega (arith, length-take n list′) in getD-take n list′ i 0 k ∙ z .below i k ∙ sym (getD-take n list i 0 k))
 
-    tell-down : drop n list′ ≡ replicate (256 - length (take n list)) 0
-    tell-down =
+    behind : drop n list′ ≡ replicate (256 - length (take n list)) 0
+    behind =
         ext-getD 0 (drop n list′) (replicate (256 - length (take n list)) 0) (length-drop n list′ ∙ omega (arith, z .size, length-take n list, length-replicate {A = ℕ} (256 - length (take n list)) 0))
         (λ i m. getD-drop n list′ i 0 ∙ z .inside (n + i) (omega arith) (omega (arith, length-drop n list′, z .size)) ∙ sym (getD-replicate {A = ℕ} (256 - length (take n list)) i 0 0 (omega (arith, length-drop n list′, z .size, length-take n list))))

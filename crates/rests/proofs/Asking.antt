@@ -1,11 +1,8 @@
 -- What a condition asks for and which conditions are a row's own: what code reads is the model's.
 use Prim.Native.Nat.{ℕ, _-_, _≤_, _<_, min}
 use mathlib.Core.Path.{_≡_, refl, sym, ap, _∙_}
-use mathlib.Core.Bool.{Bool, true, false, cond}
+use mathlib.Core.Logic.{_⊎_, inl, inr}
 use mathlib.Core.List.{List, [], _∷_}
-use native.Mathlib.Omega.{arith}
-use lib.Dec.{ltb}
-use borrow.Author.Tests.{lt-ltb, le-ltb}
 use lib.ListN.{length, getD, take}
 use Rattle.model.specs.Records.{Policy}
 use Rattle.model.specs.Layout.{policyOf}
@@ -13,34 +10,33 @@ use Rattle.model.specs.Conditions.{Condition, role, kind, fact, malformed, mean
 use Rattle.model.specs.declared.Row.{Row}
 use Rattle.model.specs.declared.Rule.{Rule}
 use Rattle.model.specs.declared.Kind.{Kind}
+use Rattle.model.proofs.Tests.{lt-or-ge}
+use Rattle.model.proofs.Meaning.{meant-role, meant-kind, meant-fact, meant-nothing}
 use Rattle.table.specs.Entries.{withoutRights}
-use Rattle.table.proofs.Worlds.{take-least}
+use Rattle.table.proofs.Entries.{take-least}
 
 -- ── what a condition asks for ──
 
 module _ (kinds : List ℕ) (c : ℕ) where
   pub asked-role : c < 256 → c ∷ [] ≡ rolesAsked (policyOf (withoutRights [] kinds)) (meant c)
-  unfolding meant rolesAsked
-  asked-role h = sym (rw (lt-ltb c 256 h) refl)
+  unfolding rolesAsked
+  asked-role h = sym (ap (rolesAsked (policyOf (withoutRights [] kinds))) (meant-role c h))
 
   pub asked-kind : (n : ℕ) (row : Kind) → 256 ≤ c → c < 384 → row ≡ kindNumbered (policyOf (withoutRights [] kinds)) (c - 256) → length (row .prerequisites) ≡ 4 → n ≡ min (row .s) 4 → take n (row .prerequisites) ≡ rolesAsked (policyOf (withoutRights [] kinds)) (meant c)
-  unfolding meant rolesAsked
+  unfolding rolesAsked
   asked-kind n row h k e size least =
       ap (λ (m : ℕ). take m (row .prerequisites)) least
       ∙ take-least (row .s) 4 (row .prerequisites) size
       ∙ ap prerequisiteRoles e
-      ∙ sym (rw (le-ltb c 256 h, lt-ltb c 384 k) refl)
+      ∙ sym (ap (rolesAsked (policyOf (withoutRights [] kinds))) (meant-kind c h k))
 
   pub asked-none : 384 ≤ c → [] ≡ rolesAsked (policyOf (withoutRights [] kinds)) (meant c)
-  unfolding meant rolesAsked
-  asked-none h = go (ltb c 448) (sym (rw (le-ltb c 256 (omega arith), le-ltb c 384 h) refl))
+  unfolding rolesAsked
+  asked-none h = go (lt-or-ge c 448)
     where
-      fact-or-not : (b : Bool) → [] ≡ rolesAsked (policyOf (withoutRights [] kinds)) (cond b (fact (c - 384)) malformed)
-      fact-or-not true = refl
-      fact-or-not false = refl
-
-      go : (b : Bool) → rolesAsked (policyOf (withoutRights [] kinds)) (cond b (fact (c - 384)) malformed) ≡ rolesAsked (policyOf (withoutRights [] kinds)) (meant c) → [] ≡ rolesAsked (policyOf (withoutRights [] kinds)) (meant c)
-      go b e = fact-or-not b ∙ e
+      go : (c < 448) ⊎ (448 ≤ c) → [] ≡ rolesAsked (policyOf (withoutRights [] kinds)) (meant c)
+      go (inl k) = sym (ap (rolesAsked (policyOf (withoutRights [] kinds))) (meant-fact c h k))
+      go (inr k) = sym (ap (rolesAsked (policyOf (withoutRights [] kinds))) (meant-nothing c k))
 
 -- ── the conditions of a row's own rule ──
 

@@ -14,9 +14,9 @@ use Rattle.model.specs.declared.Row.{Row}
 use Rattle.model.proofs.Tests.{is-true, of-true, and-left, and-right, each, all-of, earlier-of}
 use Rattle.table.specs.Entries.{Sized}
 use Rattle.table.proofs.Entries.{length-entries, sized}
-use Rattle.index.specs.Owned.{InRange}
+use Rattle.index.specs.Owned.{InRange, CertificatesInRange}
 use Rattle.policy.specs.Lent.{kindsOnly}
-use Rattle.sound.specs.Named.{nameClauses, rowNamed, CertificatesInRange}
+use Rattle.sound.specs.Named.{nameClauses, rowNamed}
 use Rattle.sound.proofs.Judged.{stays, rows-parts}
 
 row-bounds : (p : Policy) (r : Row) → T (rowNamed p r) → (r .user < 4096) × (r .role < 256)
@@ -25,18 +25,15 @@ row-bounds p r t = let h = each (nameClauses p r) t in (ltb→lt (r .user) 4096 
 
 -- the rows are named rightly, and the certificates are in range
 pub ranges : (p : Policy) (s : List ℕ) → Sized s → CertificatesInRange s → all (rowNamed p) (decode s .rows) ≡ true → InRange s
-ranges p s z c e = record { sized = z; rows = λ r m. row-bounds p r (all-of (rowNamed p) (decode s .rows) (of-true (all (rowNamed p) (decode s .rows)) e) r m); certificates = c .each }
+ranges p s z c e = record { sized = z; rows = λ r m. row-bounds p r (all-of (rowNamed p) (decode s .rows) (of-true (all (rowNamed p) (decode s .rows)) e) r m); certificates = c }
 
 pub certificates-range : (p : Policy) (s : List ℕ) → length (p .kinds) ≤ 128 → allOverEarlier (certificateSound p) [] (decode s .certificates) ≡ true → CertificatesInRange s
 unfolding certificateClauses
-certificates-range p s few e =
-    record {
-      each = λ c m.
-          let f = earlier-of (certificateSound p) [] (decode s .certificates) (of-true (allOverEarlier (certificateSound p) [] (decode s .certificates)) e) c m in
-          let h = each (certificateClauses p ([] ++ f .0) c) (f .3) in
-          let k : c .kind < length (p .kinds) = ltb→lt (c .kind) (length (p .kinds)) (h .1 .0) in
-          (ltb→lt (c .appointee) 4096 (h .0), omega (arith, k));
-    }
+certificates-range p s few e c m =
+    let f = earlier-of (certificateSound p) [] (decode s .certificates) (of-true (allOverEarlier (certificateSound p) [] (decode s .certificates)) e) c m in
+    let h = each (certificateClauses p ([] ++ f .0) c) (f .3) in
+    let k : c .kind < length (p .kinds) = ltb→lt (c .kind) (length (p .kinds)) (h .1 .0) in
+    (ltb→lt (c .appointee) 4096 (h .0), omega (arith, k))
 
 -- as many kinds as the table has whole rows
 pub few-kinds : (kinds : List ℕ) → length kinds / 7 ≤ 128 → length (kindsOnly kinds .kinds) ≤ 128

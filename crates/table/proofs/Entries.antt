@@ -1,19 +1,20 @@
 -- The laws by which loops over tables are proved: one entry more, an entry found, an entry missed; what stands at each place; and
 -- what a well formed state keeps to.
-use Prim.Native.Nat.{ℕ, zero, suc, _+_, _*_, _/_, _≤_, _<_}
+use Prim.Native.Nat.{ℕ, zero, suc, _+_, _*_, _/_, min, _≤_, _<_}
 use mathlib.Core.Path.{_≡_, refl, sym, ap, _∙_, subst}
 use mathlib.Core.Bool.{Bool, true, false, _&&_, _||_}
+use mathlib.Core.Logic.{_⊎_, inl, inr}
 use mathlib.Core.List.{List, [], _∷_, _++_, List·Memᴰ}
 use native.Mathlib.Omega.{arith}
 use native.Mathlib.Nat.{suc-mul, zero-mul, add-comm}
 use native.Mathlib.Numerals.{add-one}
 use lib.Dec.{T}
 use lib.ListN.{length, getD, take, drop, length-drop, List·getD-eq-default, length-map}
-use lib.Seq.{getD-take, getD-drop, drop-drop, take-suc, ext-getD, length-take-le}
+use lib.Seq.{getD-take, getD-drop, drop-drop, take-suc, ext-getD, length-take-le, take-all}
 use Rattle.model.specs.Lists.{any, all, rowsOf}
 use Rattle.model.specs.Layout.{rowFrom, rowNumbers}
 use Rattle.model.specs.Sound.{wellFormed}
-use Rattle.model.proofs.Tests.{all-append, at-place, is-true, of-true, any-append, of-any, all-of, among-first}
+use Rattle.model.proofs.Tests.{lt-or-ge, all-append, at-place, is-true, of-true, any-append, of-any, all-of, among-first}
 use Rattle.model.proofs.Numbers.{length-rows, formed-size, formed-rows, formed-certificates}
 use Rattle.table.specs.Entries.{entry, entries, ruleAt, kindAt, rightAt, rowAt, firstRows, certificateAt, Sized}
 
@@ -87,6 +88,14 @@ module _ {A : Type 0} (from : List ℕ → A) (width : ℕ) where
   entries-all-miss test table n j h e = all-spoilt test (entries from width table n) (entry from width table j) (entry-member from width table n j h) e
 
 -- ── what stands at each place ──
+
+-- asking for more than there are is asking for all
+pub take-least : {A : Type 0} (m n : ℕ) (l : List A) → length l ≡ n → take (min m n) l ≡ take m l
+take-least m n l e = go (lt-or-ge m n)
+  where
+    go : (m < n) ⊎ (n ≤ m) → take (min m n) l ≡ take m l
+    go (inl h) = let q : min m n ≡ m = omega arith in ap (λ (k : ℕ). take k l) q
+    go (inr h) = take-all (min m n) l (omega arith) ∙ sym (take-all m l (omega arith))
 
 -- the n numbers of a list from place b + k on, one by one
 abbrev cells : List ℕ → ℕ → ℕ → ℕ → List ℕ

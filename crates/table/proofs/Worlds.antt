@@ -1,19 +1,15 @@
 -- What a condition does not look at: holding reads the kinds and no other table of the policy.
-use Prim.Native.Nat.{ℕ, min, _≤_, _<_}
-use mathlib.Core.Path.{_≡_, refl, sym, ap, _∙_}
+use Prim.Native.Nat.{ℕ}
+use mathlib.Core.Path.{_≡_, refl, ap}
 use mathlib.Core.Bool.{_&&_}
-use mathlib.Core.Logic.{_⊎_, inl, inr}
 use mathlib.Core.List.{List}
-use native.Mathlib.Omega.{arith}
-use lib.ListN.{length, getD, take}
+use lib.ListN.{getD}
 use lib.Dec.{eqb}
-use lib.Seq.{take-all}
 use Rattle.model.specs.Lists.{all}
 use Rattle.model.specs.Records.{Policy, State, worldOf}
 use Rattle.model.specs.Conditions.{Condition, role, kind, fact, malformed, meant, prerequisiteRoles, noKind, noRule, membership, activating, active, supported, satisfied, someStands, holds}
 use Rattle.model.specs.declared.Row.{Row}
 use Rattle.model.specs.declared.Kind.{Kind}
-use Rattle.model.proofs.Tests.{lt-or-ge}
 
 holds-same : (p₁ p₂ : Policy) (t : State) → p₁ .kinds ≡ p₂ .kinds → (rows : List Row) (u : ℕ) (c : Condition) → holds (worldOf p₁ t) rows u c ≡ holds (worldOf p₂ t) rows u c
 unfolding holds
@@ -21,14 +17,6 @@ holds-same p₁ p₂ t e rows u (role q) = refl
 holds-same p₁ p₂ t e rows u (kind k) = ap (λ (ks : List Kind). someStands (t .certificates) u k && all (active rows u) (prerequisiteRoles (getD ks k noKind))) e
 holds-same p₁ p₂ t e rows u (fact f) = refl
 holds-same p₁ p₂ t e rows u malformed = refl
-
--- asking for more than there are is asking for all
-pub take-least : {A : Type 0} (m n : ℕ) (l : List A) → length l ≡ n → take (min m n) l ≡ take m l
-take-least m n l e = go (lt-or-ge m n)
-  where
-    go : (m < n) ⊎ (n ≤ m) → take (min m n) l ≡ take m l
-    go (inl h) = let q : min m n ≡ m = omega arith in ap (λ (k : ℕ). take k l) q
-    go (inr h) = take-all (min m n) l (omega arith) ∙ sym (take-all m l (omega arith))
 
 -- ── rights are not read ──
 

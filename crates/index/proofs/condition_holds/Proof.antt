@@ -3,7 +3,7 @@ use mathlib.Core.List.{[]}
 use Rattle.model.specs.Layout.{decode}
 use Rattle.table.specs.Entries.{worldAt}
 use Rattle.index.specs.Marked.{has, holdsBy}
-use Rattle.index.proofs.Holding.{meant-role, meant-kind, meant-fact, meant-nothing}
+use Rattle.model.proofs.Meaning.{meant-role, meant-kind, meant-fact, meant-nothing}
 use borrow.Author.Needs.{needs}
 use Rattle.index.proofs.condition_holds.Statement.{statement}
 use Rattle.index.proofs.condition_holds.Tie as tie
