@@ -5,27 +5,30 @@ use mathlib.Core.Bool.{Bool, true, false, not, _&&_, _||_, cond}
 use mathlib.Core.Logic.{_⊎_, inl, inr}
 use mathlib.Core.List.{List, [], _∷_, _++_, List·Memᴰ, Memᴰ·append-right, List·Memᴰ·head, List·Memᴰ·tail, List·Memᴰ·cases-cons, Memᴰ·append-left}
 use native.Mathlib.Omega.{arith}
-use lib.Dec.{T, eqb, ltb, eqb→eq, lt→ltb, le→leb, T-not, not-T}
-use lib.ListN.{length, getD, take, drop, length-take, length-drop, length-append}
+use lib.Dec.{T, eqb, ltb, eqb→eq, eqb-refl, lt→ltb, le→leb, T-not, not-T}
+use lib.ListN.{length, getD, set, take, drop, length-take, length-drop, length-append}
+use lib.Seq.{getD-take, getD-set-same, getD-set-other, length-take-le}
 use borrow.Author.Tests.{lt-ltb, le-ltb}
 use Rattle.model.specs.Lists.{any, every, allOverEarlier, without, firstPlace, isBit}
-use Rattle.model.specs.Limits.{facts}
+use Rattle.model.specs.Limits.{facts, stateSize}
 use Rattle.model.specs.Records.{Policy, State, worldOf, withRows, withCertificates, withFact}
 use Rattle.model.specs.Layout.{policyOf, decode, encode, certificateCount}
 use Rattle.model.specs.Conditions.{kindNumbered, supported}
 use Rattle.model.specs.Left.{left}
-use Rattle.model.specs.Sound.{sameCertificate, certificateClauses, certificateSound, wellFormed}
+use Rattle.model.specs.Sound.{sameCertificate, certificateClauses, certificateSound, rowSound, wellFormed}
 use Rattle.model.specs.Outcome.{Course, Keeps, firstCode, judgedFirst, decided, given}
 use Rattle.model.specs.Calls.{Call, revoke, withdraw, environment, logout, isUser, hasRow, stands, ofUser, mayRevoke, withoutCertificate, settled, revokeOn, withdrawOn, environmentOn, logoutOn, courseOf, answer}
 use Rattle.model.specs.Words.{Fits, Sound, FirstApplies, none, here, later}
 use Rattle.model.specs.declared.Answer.{Answer}
 use Rattle.model.specs.declared.Row.{Row}
 use Rattle.model.specs.declared.Certificate.{Certificate}
-use Rattle.model.proofs.Tests.{and-right, is-true, of-true, of-false, each, of-each, earlier-of, found-any, not-found, of-any}
+use Rattle.model.proofs.Tests.{decide, and-right, is-true, of-true, of-false, each, of-each, earlier-of, earlier-map, found-any, not-found, of-any}
 use Rattle.model.proofs.Refusals.{first-applies, only-first}
 use Rattle.model.proofs.Parts.{without-none}
-use Rattle.model.proofs.Numbers.{decode-encode, encode-formed, sound-decode}
-use Rattle.model.proofs.Kept.{sound-certificates, fact-fits, certificates-fit}
+use Rattle.model.proofs.Sweep.{left-whole}
+use Rattle.model.proofs.Support.{Less, less-supports, row-supported}
+use Rattle.model.proofs.Numbers.{decode-encode, decode-fits, encode-formed, sound-decode}
+use Rattle.model.proofs.Kept.{sound-certificates, sound-rows, fact-fits, certificates-fit}
 use Rattle.table.specs.Entries.{worldAt, withoutRights}
 use Rattle.table.proofs.Entries.{sized}
 use Rattle.table.proofs.Worlds.{supported-same}
@@ -33,7 +36,7 @@ use Rattle.index.specs.Owned.{InRange}
 use Rattle.fall.specs.Changes.{Left}
 use Rattle.inner.specs.Lent.{lent, Answers}
 use Rattle.inner.proofs.Codes.{own-decide, own-refuses, own-accepts, out-of-range, in-range, found, certificate-length, some-kind}
-use Rattle.taking.specs.Fallen.{Fallen, fallenRows}
+use Rattle.taking.specs.Fallen.{allSupported, Fallen, fallenRows}
 use Rattle.taking.specs.Taken.{takenOn, Comes}
 
 -- ── a change, and the fall after it ──
@@ -74,6 +77,36 @@ pub one-less-fits : (t : State) (j : ℕ) → Fits t → Fits (withCertificates 
 one-less-fits t j f =
     certificates-fit t (take j (t .certificates) ++ drop (suc j) (t .certificates)) f
     (omega (arith, length-append (take j (t .certificates)) (drop (suc j) (t .certificates)), length-take j (t .certificates), length-drop (suc j) (t .certificates), f .room-for-certificates))
+
+-- ── a fact that does not go ──
+
+pub fact-set-fits : (s : List ℕ) (f v : ℕ) → wellFormed s ≡ true → v ≤ 1 → Fits (withFact (decode s) f v)
+fact-set-fits s f v w l = fact-fits (decode s) f v (decode-fits s (of-true (wellFormed s) w)) (le→leb v 1 l)
+
+-- with a fact that is no lower than it was, no fact is lost
+fact-less : (s : List ℕ) (f v : ℕ) → length s ≡ stateSize → f < 64 → v ≤ 1 → getD s f 0 ≤ v → Less (decode s) (withFact (decode s) f v)
+unfolding decode
+fact-less s f v size a b l = record { certificates = λ c m. m; facts = λ g t. go g (decide (eqb g f)) t }
+  where
+    go : (g : ℕ) → T (eqb g f) ⊎ T (not (eqb g f)) → T (eqb (getD (take 64 s) g 0) 1) → T (eqb (getD (set (take 64 s) f v) g 0) 1)
+    go g (inl e) t =
+        let p : g ≡ f = eqb→eq g f e in
+        let was : getD s f 0 ≡ 1 = sym (ap (λ (n : ℕ). getD (take 64 s) n 0) p ∙ getD-take 64 s f 0 a) ∙ eqb→eq (getD (take 64 s) g 0) 1 t in
+        let is : v ≡ 1 = omega arith in
+        subst⁻¹ (λ (n : ℕ). T (eqb n 1)) (ap (λ (n : ℕ). getD (set (take 64 s) f v) n 0) p ∙ getD-set-same (take 64 s) f v 0 (omega (arith, length-take-le 64 s (omega arith))) ∙ is) tt
+    go g (inr n) t = subst⁻¹ (λ (m : ℕ). T (eqb m 1)) (getD-set-other (take 64 s) f g v 0 (λ q. T-not (eqb g f) n (subst (λ (m : ℕ). T (eqb g m)) q (eqb-refl g)))) t
+
+-- and where each row has its support, none falls
+pub none-falls : (rules kinds s s′ : List ℕ) (f v : ℕ) → length s ≡ stateSize → allSupported rules kinds (decode s) ≡ true → f < 64 → v ≤ 1 → getD s f 0 ≤ v → s′ ≡ encode (withFact (decode s) f v) → Fallen rules kinds (withFact (decode s) f v) s′ 0
+none-falls rules kinds s s′ f v size t a b l e = record { state = e ∙ ap (λ (rows : List Row). encode (withRows (withFact (decode s) f v) rows)) (sym all-left); count = omega (arith, ap length all-left) }
+  where
+    under : State → List Row → Row → Bool
+    under x = supported (worldOf (policyOf (withoutRights rules kinds)) x)
+
+    all-left : fallenRows rules kinds (withFact (decode s) f v) ≡ decode s .rows
+    all-left =
+        left-whole (under (withFact (decode s) f v)) (decode s .rows)
+        (earlier-map (under (decode s)) (under (withFact (decode s) f v)) (less-supports (policyOf (withoutRights rules kinds)) (decode s) (withFact (decode s) f v) (fact-less s f v size a b l)) [] (decode s .rows) (of-true (allSupported rules kinds (decode s)) t))
 
 -- ── the certificate at its first place is the only one of its sort ──
 
@@ -140,6 +173,15 @@ module _ (rules kinds rights s : List ℕ) (h : Sound (lent rules kinds rights) 
       subst (λ (x : Course). Keeps (decided (firstCode (x .refusals)) s [] (x .effect)) (r .code) (r .second) s′ []) (sym is)
       (subst (λ (n : ℕ). Keeps (decided n s [] (course .effect)) (r .code) (r .second) s′ []) (only-first (own-decide (lent rules kinds rights) s h course (first-applies (course .refusals)))) k)
 
+  -- each row of a sound state has its support
+  pub sound-supported : allSupported rules kinds (decode s) ≡ true
+  unfolding policyOf
+  sound-supported =
+      let world = worldOf (policyOf (lent rules kinds rights)) (decode s) in
+      is-true (allSupported rules kinds (decode s))
+      (subst (λ (test : List Row → Row → Bool). T (allOverEarlier test [] (decode s .rows))) (supported-same (policyOf (lent rules kinds rights)) (policyOf (withoutRights rules kinds)) (decode s) refl refl)
+      (earlier-map (rowSound world) (supported world) (λ earlier r v. row-supported world earlier r v) [] (decode s .rows) (sound-rows (policyOf (lent rules kinds rights)) (decode s) (sound-decode (policyOf (lent rules kinds rights)) s (h .state)))))
+
   -- ── the certificate c, found at j ──
 
   module _ (c : Certificate) (allowed : Bool) where
@@ -203,9 +245,6 @@ module _ (rules kinds rights s : List ℕ) (h : Sound (lent rules kinds rights) 
     pub environment-out : (r : Answer) → (r .code ≡ 3) × (r .second ≡ 0) → T (not (every (ltb f facts ∷ isBit v ∷ []))) → Answers (lent rules kinds rights) s (environment f v) r s
     unfolding courseOf environmentOn
     environment-out r z o = own-refuses (lent rules kinds rights) s [] h (environment f v) _ refl r 3 (omega arith) z (here o)
-
-    pub fact-set-fits : v ≤ 1 → Fits (withFact (decode s) f v)
-    fact-set-fits l = fact-fits (decode s) f v (sound-decode (policyOf (lent rules kinds rights)) s (h .state) .fits) (le→leb v 1 l)
 
     pub environment-done : (r : Answer) (s′ : List ℕ) → f < 64 → v ≤ 1 → r .code ≡ 0 → Fallen rules kinds (withFact (decode s) f v) s′ (r .second) → Answers (lent rules kinds rights) s (environment f v) r s′
     unfolding courseOf environmentOn settled

@@ -1,7 +1,9 @@
 -- What is left once the rows that lost their support have fallen.
 use Prim.Native.Nat.{ℕ, _+_}
 use mathlib.Core.Path.{_≡_}
-use mathlib.Core.List.{List}
+use mathlib.Core.Bool.{Bool}
+use mathlib.Core.List.{List, []}
+use Rattle.model.specs.Lists.{allOverEarlier}
 use Rattle.model.specs.Records.{State, worldOf, withRows}
 use Rattle.model.specs.Layout.{policyOf, encode}
 use lib.ListN.{length}
@@ -13,6 +15,10 @@ use Rattle.model.specs.declared.Row.{Row}
 -- the rows of the state v that are left
 abbrev pub fallenRows : List ℕ → List ℕ → State → List Row
 fallenRows rules kinds v = left (supported (worldOf (policyOf (withoutRights rules kinds)) v)) (v .rows)
+
+-- each row of the state v is supported by those before it
+abbrev pub allSupported : List ℕ → List ℕ → State → Bool
+allSupported rules kinds v = allOverEarlier (supported (worldOf (policyOf (withoutRights rules kinds)) v)) [] (v .rows)
 
 -- s′ is v with these rows alone, as numbers; `lost` is the rows lost
 pub record Fallen (rules kinds : List ℕ) (v : State) (s′ : List ℕ) (lost : ℕ) : Type 0 where

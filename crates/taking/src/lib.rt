@@ -3,9 +3,10 @@
 ghost use mathlib.Core.Path.{_≡_};
 ghost use mathlib.Core.Bool.{true};
 ghost use mathlib.Core.List.{[], _++_};
-ghost use Prim.Native.Nat.{suc, _<_};
+ghost use Prim.Native.Nat.{suc, _<_, _≤_};
 ghost use lib.ListN.{take, drop};
-ghost use Rattle.model.specs.Records.{withCertificates};
+ghost use Rattle.model.specs.Limits.{facts};
+ghost use Rattle.model.specs.Records.{withCertificates, withFact};
 ghost use Rattle.model.specs.Layout.{decode, policyOf, certificateCount};
 ghost use Rattle.model.specs.Conditions.{kindNumbered};
 ghost use Rattle.model.specs.Sound.{wellFormed};
@@ -15,7 +16,7 @@ ghost use Rattle.model.specs.Words.{Sound};
 ghost use Rattle.table.specs.Entries.{withoutRights, Sized};
 ghost use Rattle.index.specs.Owned.{InRange};
 ghost use Rattle.inner.specs.Lent.{lent, Answers};
-ghost use Rattle.taking.specs.Fallen.{Fallen};
+ghost use Rattle.taking.specs.Fallen.{allSupported, Fallen};
 ghost use Rattle.taking.specs.Taken.{takenOn, Comes};
 use model::Answer;
 use model::CERTIFICATE_COUNT;
@@ -130,6 +131,20 @@ pub fn withdraw(
     take_away(rules, kinds, rights, state, certificate, true)
 }
 
+// The fact takes the value, and the rows that lose their support fall. In a state in which each row has its support, none loses it where
+// no fact goes: then none is judged. Returns how many rows were lost.
+fn settle_fact(rules: &[u16], kinds: &[u16], state: &mut [u16], fact: usize, value: u16) -> u16
+    requires { ⌜ (wellFormed (now state) ≡ true) × InRange (now state) × (allSupported (now rules) (now kinds) (decode (now state)) ≡ true) × (fact < facts) × (value ≤ 1) ⌝ }
+    ensures { λ r. ⌜ Fallen (now (rules .entry)) (now (kinds .entry)) (withFact (decode (now (state .entry))) fact value) (now (state .exit)) r ⌝ }
+{
+    let before = state[fact];
+    change::set_fact(state, fact, value);
+    if value < before {
+        return fall::fall(rules, kinds, state);
+    }
+    0
+}
+
 pub fn environment(
     rules: &[u16],
     kinds: &[u16],
@@ -147,8 +162,7 @@ pub fn environment(
     if 2 <= value {
         return inner::refused(3);
     }
-    change::set_fact(state, table::wide(fact), value);
-    let second = fall::fall(rules, kinds, state);
+    let second = settle_fact(rules, kinds, state, table::wide(fact), value);
     Answer { code: 0, second }
 }
 
