@@ -3,7 +3,7 @@ ghost use mathlib.Core.Path.{_≡_};
 ghost use mathlib.Core.List.{[]};
 ghost use Rattle.model.specs.Outcome.{Keeps};
 ghost use Rattle.model.specs.Calls.{answer, fresh as freshCall, activate as activateCall, appoint as appointCall, revoke as revokeCall, withdraw as withdrawCall, environment as environmentCall, logout as logoutCall, invoke as invokeCall, effective as effectiveCall, chain as chainCall};
-ghost use Rattle.inner.specs.Lent.{lent};
+ghost use Rattle.inner.specs.Promise.{lent};
 use model::Answer;
 
 // `struct adobethrum_answer` of the header.

@@ -8,7 +8,7 @@ use native.Mathlib.Omega.{arith}
 use lib.Dec.{T, eqb, leb→le}
 use lib.ListN.{length}
 use borrow.Author.Tests.{ne-eqb}
-use Rattle.model.specs.Records.{Tables}
+use Rattle.model.specs.Values.{Tables}
 use Rattle.model.specs.Layout.{policyOf, kindFrom}
 use Rattle.model.specs.Sound.{policyClauses, soundPolicy, sound}
 use Rattle.model.specs.Outcome.{Refusal, firstCode, Course, judgedFirst}
@@ -17,7 +17,7 @@ use Rattle.model.specs.Words.{Sound, FirstApplies, here, later}
 use Rattle.model.specs.declared.Answer.{Answer}
 use Rattle.model.proofs.Tests.{of-false, of-true, each}
 use Rattle.table.proofs.Entries.{length-entries}
-use Rattle.inner.specs.Lent.{lent, AnswersWith, Answers}
+use Rattle.inner.specs.Promise.{lent, AnswersWith, Answers}
 use Rattle.inner.proofs.Codes.{refuses}
 use Rattle.calls.specs.Judgement.{judgement}
 

@@ -2,7 +2,7 @@
 ghost use mathlib.Core.Path.{_≡_};
 ghost use mathlib.Core.List.{[]};
 ghost use Rattle.model.specs.Calls.{fresh as freshCall, activate as activateCall, appoint as appointCall, revoke as revokeCall, withdraw as withdrawCall, environment as environmentCall, logout as logoutCall, invoke as invokeCall, effective as effectiveCall, chain as chainCall};
-ghost use Rattle.inner.specs.Lent.{lent, Answers, AnswersWith};
+ghost use Rattle.inner.specs.Promise.{lent, Answers, AnswersWith};
 ghost use Rattle.calls.specs.Judgement.{judgement};
 use model::Answer;
 use model::STATE_SIZE;

@@ -7,7 +7,7 @@ use native.Mathlib.Omega.{arith}
 use native.Mathlib.Numerals.{add-one}
 use lib.ListN.{length, getD, set, take, drop, length-set}
 use lib.Seq.{getD-set-same, getD-set-other, take-set-lt, ext-getD}
-use Rattle.model.specs.Records.{withRows, withCertificates, withFact}
+use Rattle.model.specs.Values.{withRows, withCertificates, withFact}
 use Rattle.model.specs.Layout.{decode, encode, rowCount, certificateCount, certificateFrom, certificateNumbers}
 use Rattle.model.specs.declared.Row.{Row}
 use Rattle.model.specs.declared.Certificate.{Certificate}
@@ -15,7 +15,7 @@ use Rattle.model.proofs.Tests.{lt-or-ge}
 use Rattle.table.specs.Entries.{rowAt, firstRows, certificateAt, firstCertificates}
 use Rattle.table.proofs.Entries.{entries-more, row-places, certificate-places, entry-in, length-entries, rows-more}
 use Rattle.fall.specs.Writes.{Moved, Zeroed}
-use Rattle.fall.proofs.Form.{threeAt, makeRow, makeCertificate, Formed, as-encoded, facts-kept, certificates-kept, rows-all-same, rows-same, certificate-same, certificates-first-same}
+use Rattle.fall.proofs.Form.{threeAt, makeRow, makeCertificate, Formed, as-encoded, facts-kept, certificates-kept, rows-kept, rows-first-same, certificate-same, certificates-first-same}
 use Rattle.change.specs.Appended.{Appended}
 
 -- ── one entry more ──
@@ -74,7 +74,7 @@ row-appended s s′ r f room a = as-encoded s′ (withRows (decode s) (decode s 
     new = row-places s′ (rowCount s) room ∙ new-three makeRow s s′ 64 (r .user) (r .role) (r .rule) a
 
     rows : firstRows s′ (rowCount s′) ≡ firstRows s (rowCount s) ++ (r ∷ [])
-    rows = ap (firstRows s′) (a .count ∙ add-one (rowCount s)) ∙ rows-more s′ (rowCount s) ∙ (λ j. rows-same s s′ (rowCount s) (f .rows) (λ k h l. a .kept k (omega arith) (omega arith)) j ++ (new j ∷ []))
+    rows = ap (firstRows s′) (a .count ∙ add-one (rowCount s)) ∙ rows-more s′ (rowCount s) ∙ (λ j. rows-first-same s s′ (rowCount s) (f .rows) (λ k h l. a .kept k (omega arith) (omega arith)) j ++ (new j ∷ []))
 
     form : Formed s′
     form =
@@ -89,7 +89,7 @@ row-appended s s′ r f room a = as-encoded s′ (withRows (decode s) (decode s 
 
 pub certificate-appended : (s s′ : List ℕ) (c : Certificate) → Formed s → certificateCount s < 256 → Appended s s′ 833 (c .appointee) (c .kind) (c .appointer) → s′ ≡ encode (withCertificates (decode s) (decode s .certificates ++ (c ∷ [])))
 unfolding decode firstCertificates certificateAt
-certificate-appended s s′ c f room a = as-encoded s′ (withCertificates (decode s) (decode s .certificates ++ (c ∷ []))) form (λ j. record { facts = facts-kept s s′ (a .size) (λ k h. a .below k (omega arith)) j; rows = rows-all-same s s′ (a .size) (λ k h l. a .below k l) j; certificates = certificates j })
+certificate-appended s s′ c f room a = as-encoded s′ (withCertificates (decode s) (decode s .certificates ++ (c ∷ []))) form (λ j. record { facts = facts-kept s s′ (a .size) (λ k h. a .below k (omega arith)) j; rows = rows-kept s s′ (a .size) (λ k h l. a .below k l) j; certificates = certificates j })
   where
     new : certificateAt s′ (certificateCount s) ≡ c
     new = certificate-places s′ (certificateCount s) room ∙ new-three makeCertificate s s′ 833 (c .appointee) (c .kind) (c .appointer) a
@@ -180,7 +180,7 @@ module _ (s m z : List ℕ) (j last : ℕ) (f : Formed s) (h : j < certificateCo
   unfolding s′ decode firstCertificates
   certificate-removed =
       as-encoded s′ (withCertificates (decode s) (take j (decode s .certificates) ++ drop (suc j) (decode s .certificates))) form
-      (λ i. record { facts = facts-kept s s′ gone-size (λ k l. low k (omega arith)) i; rows = rows-all-same s s′ gone-size (λ k a l. low k l) i; certificates = (ap (firstCertificates s′) gone-count ∙ entries-left) i })
+      (λ i. record { facts = facts-kept s s′ gone-size (λ k l. low k (omega arith)) i; rows = rows-kept s s′ gone-size (λ k a l. low k l) i; certificates = (ap (firstCertificates s′) gone-count ∙ entries-left) i })
     where
       form : Formed s′
       form =
@@ -199,7 +199,7 @@ pub fact-set : (s : List ℕ) (i v : ℕ) → Formed s → i < 64 → v ≤ 1 �
 unfolding decode
 fact-set s i v f h l =
     as-encoded (set s i v) (withFact (decode s) i v) form
-    (λ j. record { facts = take-set-lt 64 s i v h j; rows = rows-all-same s (set s i v) (length-set s i v) (λ k a b. other k (omega arith)) j; certificates = certificates-kept s (set s i v) (length-set s i v) (λ k a. other k (omega arith)) j })
+    (λ j. record { facts = take-set-lt 64 s i v h j; rows = rows-kept s (set s i v) (length-set s i v) (λ k a b. other k (omega arith)) j; certificates = certificates-kept s (set s i v) (length-set s i v) (λ k a. other k (omega arith)) j })
   where
     other : (k : ℕ) → k ≢ i → getD (set s i v) k 0 ≡ getD s k 0
     other k n = getD-set-other s i k v 0 n

@@ -5,15 +5,15 @@ ghost use mathlib.Core.List.{[], _∷_, _++_};
 ghost use Prim.Native.Nat.{suc, _+_, _<_, _≤_};
 ghost use lib.ListN.{length, getD, take, drop};
 ghost use Rattle.model.specs.Limits.{mostRows, mostCertificates, facts};
-ghost use Rattle.model.specs.Records.{withRows, withCertificates, withFact};
+ghost use Rattle.model.specs.Values.{withRows, withCertificates, withFact};
 ghost use Rattle.model.specs.Layout.{decode, encode, rowCount, certificateCount};
 ghost use Rattle.model.specs.Sound.{wellFormed};
 ghost use Rattle.change.specs.Appended.{Appended};
-use model::CERTIFICATE_COUNT;
+use model::CERTIFICATE_COUNT_AT;
 use model::CERTIFICATE_WIDTH;
-use model::CERTIFICATES;
+use model::CERTIFICATES_AT;
 use model::Certificate;
-use model::ROW_COUNT;
+use model::ROW_COUNT_AT;
 use model::Row;
 
 // The table that stands behind its count at a place has one entry more.
@@ -34,7 +34,7 @@ pub fn append_row(state: &mut [u16], row: Row)
     requires { ⌜ (wellFormed (now state) ≡ true) × (rowCount (now state) < mostRows) ⌝ }
     ensures { λ r. ⌜ now (state .exit) ≡ encode (withRows (decode (now (state .entry))) (decode (now (state .entry)) .rows ++ (row ∷ []))) ⌝ }
 {
-    append(state, ROW_COUNT, row.user, row.role, row.rule);
+    append(state, ROW_COUNT_AT, row.user, row.role, row.rule);
 }
 
 // One certificate more.
@@ -44,7 +44,7 @@ pub fn append_certificate(state: &mut [u16], certificate: Certificate)
 {
     append(
         state,
-        CERTIFICATE_COUNT,
+        CERTIFICATE_COUNT_AT,
         certificate.appointee,
         certificate.kind,
         certificate.appointer,
@@ -56,13 +56,13 @@ pub fn remove_certificate(state: &mut [u16], j: usize)
     requires { ⌜ (wellFormed (now state) ≡ true) × (j < certificateCount (now state)) ⌝ }
     ensures { λ r. ⌜ now (state .exit) ≡ encode (withCertificates (decode (now (state .entry))) (take j (decode (now (state .entry)) .certificates) ++ drop (suc j) (decode (now (state .entry)) .certificates))) ⌝ }
 {
-    let n = table::wide(state[CERTIFICATE_COUNT]);
+    let n = table::wide(state[CERTIFICATE_COUNT_AT]);
     let last = n - 1;
-    let b = j * CERTIFICATE_WIDTH + CERTIFICATES;
-    let e = last * CERTIFICATE_WIDTH + CERTIFICATES;
+    let b = j * CERTIFICATE_WIDTH + CERTIFICATES_AT;
+    let e = last * CERTIFICATE_WIDTH + CERTIFICATES_AT;
     fall::move_down(state, b + CERTIFICATE_WIDTH, b, e - b);
     fall::zero(state, e, e + CERTIFICATE_WIDTH);
-    state[CERTIFICATE_COUNT] = last as u16;
+    state[CERTIFICATE_COUNT_AT] = last as u16;
 }
 
 // The fact has the value.

@@ -13,7 +13,7 @@ ghost use Rattle.policy.specs.Lent.{lent};
 ghost use Rattle.direct.specs.Having.{RightsFit, met, Said, hasRight, Having};
 use model::RIGHT_WIDTH;
 use model::ROLES;
-use model::ROW_COUNT;
+use model::ROW_COUNT_AT;
 use model::Row;
 
 // The privilege is among the 32 numbers from a place on. All are looked at, so that the machine may take several in one step; a role of
@@ -101,7 +101,7 @@ pub fn may_invoke(rights: &[u16], state: &[u16], user: u16, privilege: u16) -> b
     ensures { λ r. ⌜ r ≡ allowed (policyOf (lent [] [] (now (rights .entry)))) (decode (now (state .entry)) .rows) user privilege ⌝ }
 {
     let having = roles_having(rights, privilege);
-    let n = table::wide(state[ROW_COUNT]);
+    let n = table::wide(state[ROW_COUNT_AT]);
     let mut i: usize = 0;
     while i < n {
         if row_carries(&having, table::row_at(state, i), user) {

@@ -7,7 +7,7 @@ use mathlib.Core.List.{List, [], _∷_}
 use native.Mathlib.Omega.{arith}
 use lib.Dec.{T}
 use lib.ListN.{length, getD}
-use Rattle.model.specs.Records.{Tables}
+use Rattle.model.specs.Values.{Tables}
 use Rattle.model.specs.Layout.{policyOf}
 use Rattle.model.specs.Sound.{soundPolicy, sound}
 use Rattle.model.specs.Outcome.{Course, judgedFirst}
@@ -19,7 +19,7 @@ use Rattle.model.proofs.Refusals.{refused-unchanged}
 use Rattle.model.proofs.Accepted.{accepted-sound}
 use Rattle.program.specs.Program.{eventCalls, lineCall}
 use Rattle.program.specs.declared.Line.{Line}
-use Rattle.inner.specs.Lent.{Answers}
+use Rattle.inner.specs.Promise.{Answers}
 use Rattle.calls.proofs.Judged.{unsound, no-policy}
 use Rattle.event.specs.SoundIf.{SoundIf}
 

@@ -7,7 +7,7 @@ ghost use Rattle.model.specs.Sound.{sound};
 ghost use Rattle.model.specs.Words.{Sound};
 ghost use Rattle.program.specs.Vocabulary.{words, policyWords};
 ghost use Rattle.program.specs.Program.{lineCall};
-ghost use Rattle.inner.specs.Lent.{lent, Answers};
+ghost use Rattle.inner.specs.Promise.{lent, Answers};
 ghost use Rattle.event.specs.SoundIf.{SoundIf};
 use model::Answer;
 use program::Line;

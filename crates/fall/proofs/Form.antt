@@ -10,7 +10,7 @@ use lib.ListN.{length, getD, take, drop, length-take, length-drop, List·getD-eq
 use lib.Seq.{getD-take, getD-drop, ext-getD, length-take-le}
 use Rattle.model.specs.Lists.{all, isZero, isBit}
 use Rattle.model.specs.Limits.{mostRows, mostCertificates, stateSize}
-use Rattle.model.specs.Records.{State}
+use Rattle.model.specs.Values.{State}
 use Rattle.model.specs.Layout.{decode, encode, rowCount, certificateCount, factNumbers, rowNumbers, certificateNumbers, rowFrom, certificateFrom}
 use Rattle.model.specs.Sound.{formClauses, wellFormed}
 use Rattle.model.specs.declared.Row.{Row}
@@ -128,9 +128,9 @@ pub certificates-kept : (s s′ : List ℕ) → length s′ ≡ length s → ((k
 unfolding decode
 certificates-kept s s′ e h = λ i. entries certificateFrom 3 (part-same s s′ 834 768 e (λ k l. h (834 + k) (omega arith)) i) (h 833 (omega arith) i)
 
-pub rows-all-same : (s s′ : List ℕ) → length s′ ≡ length s → ((k : ℕ) → 64 ≤ k → k < 833 → getD s′ k 0 ≡ getD s k 0) → decode s′ .rows ≡ decode s .rows
+pub rows-kept : (s s′ : List ℕ) → length s′ ≡ length s → ((k : ℕ) → 64 ≤ k → k < 833 → getD s′ k 0 ≡ getD s k 0) → decode s′ .rows ≡ decode s .rows
 unfolding decode
-rows-all-same s s′ e h = λ i. entries rowFrom 3 (part-same s s′ 65 768 e (λ k l. h (65 + k) (omega arith) (omega arith)) i) (h 64 (omega arith) (omega arith) i)
+rows-kept s s′ e h = λ i. entries rowFrom 3 (part-same s s′ 65 768 e (λ k l. h (65 + k) (omega arith) (omega arith)) i) (h 64 (omega arith) (omega arith) i)
 
 -- three numbers at entry i of a table, as what they make
 module _ {A : Type 0} (make : ℕ → ℕ → ℕ → A) (place : ℕ) where
@@ -163,9 +163,9 @@ pub entries-same : {A : Type 0} (from : List ℕ → A) (width : ℕ) (t t′ : 
 entries-same from width t t′ zero h = refl
 entries-same from width t t′ (suc k) h = entries-next from width t′ k ∙ (λ i. entries-same from width t t′ k (λ j l. h j (omega arith)) i ++ (h k (omega arith) i ∷ [])) ∙ sym (entries-next from width t k)
 
-pub rows-same : (s s′ : List ℕ) (k : ℕ) → k ≤ 256 → ((j : ℕ) → 65 ≤ j → j < k * 3 + 65 → getD s′ j 0 ≡ getD s j 0) → firstRows s′ k ≡ firstRows s k
+pub rows-first-same : (s s′ : List ℕ) (k : ℕ) → k ≤ 256 → ((j : ℕ) → 65 ≤ j → j < k * 3 + 65 → getD s′ j 0 ≡ getD s j 0) → firstRows s′ k ≡ firstRows s k
 unfolding firstRows rowAt
-rows-same s s′ k b h = entries-same rowFrom 3 (rowNumbers s) (rowNumbers s′) k (λ i l. row-same s s′ i i (omega arith) (omega arith) (λ j m. h (i * 3 + 65 + j) (omega arith) (omega arith)))
+rows-first-same s s′ k b h = entries-same rowFrom 3 (rowNumbers s) (rowNumbers s′) k (λ i l. row-same s s′ i i (omega arith) (omega arith) (λ j m. h (i * 3 + 65 + j) (omega arith) (omega arith)))
 
 pub certificates-first-same : (s s′ : List ℕ) (k : ℕ) → k ≤ 256 → ((j : ℕ) → 834 ≤ j → j < k * 3 + 834 → getD s′ j 0 ≡ getD s j 0) → firstCertificates s′ k ≡ firstCertificates s k
 unfolding firstCertificates certificateAt

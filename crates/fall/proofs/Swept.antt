@@ -10,7 +10,7 @@ use lib.Dec.{eqb}
 use lib.ListN.{length, getD, set, length-set}
 use lib.Seq.{getD-set-same, getD-set-other}
 use Rattle.model.specs.Lists.{without}
-use Rattle.model.specs.Records.{World, withRows}
+use Rattle.model.specs.Values.{World, withRows}
 use Rattle.model.specs.Layout.{decode, factNumbers, rowCount, rowFrom, rowNumbers}
 use Rattle.model.specs.Conditions.{active, supported}
 use Rattle.model.specs.Left.{left}
@@ -21,8 +21,8 @@ use Rattle.table.specs.Entries.{rowAt, firstRows, Sized}
 use Rattle.table.proofs.Entries.{rows-more, length-entries}
 use Rattle.support.specs.Verdicts.{kept, Judged}
 use Rattle.fall.specs.Writes.{Moved, Zeroed}
-use Rattle.fall.specs.Changes.{rowPlace, Settled, isKept, staying, Swept, Closed, Left}
-use Rattle.fall.proofs.Form.{Formed, as-encoded, facts-kept, certificates-kept, row-same, rows-same}
+use Rattle.fall.specs.Changes.{rowPlace, Settled, isKept, staying, Swept, Closed, RowsLeft}
+use Rattle.fall.proofs.Form.{Formed, as-encoded, facts-kept, certificates-kept, row-same, rows-first-same}
 
 pub swept-none : (stays : ℕ → Bool) (s : List ℕ) → Swept stays s s 0 0
 unfolding firstRows staying
@@ -39,7 +39,7 @@ swept-sized stays s₀ s i w z h p =
 
 -- a row moved behind the rows kept
 pub kept-rows : (s s′ : List ℕ) (w i : ℕ) → w ≤ i → i < 256 → Moved s s′ (rowPlace i) (rowPlace w) 3 → firstRows s′ (w + 1) ≡ firstRows s w ++ (rowAt s i ∷ [])
-kept-rows s s′ w i h l m = ap (firstRows s′) (add-one w) ∙ rows-more s′ w ∙ (λ k. rows-same s s′ w (omega arith) (λ j a b. m .below j b) k ++ (row-same s s′ i w l (omega arith) (λ j b. m .inside j b) k ∷ []))
+kept-rows s s′ w i h l m = ap (firstRows s′) (add-one w) ∙ rows-more s′ w ∙ (λ k. rows-first-same s s′ w (omega arith) (λ j a b. m .below j b) k ++ (row-same s s′ i w l (omega arith) (λ j b. m .inside j b) k ∷ []))
 
 -- what the pass has not reached stands as it stood
 pub swept-row : (stays : ℕ → Bool) (s₀ s : List ℕ) (i w : ℕ) → i < 256 → Swept stays s₀ s i w → rowAt s i ≡ rowAt s₀ i
@@ -96,7 +96,7 @@ closed s z w n e h l zs =
     other k m = getD-set-other z 64 k w 0 m
 
 -- the pass is over, and the table is closed behind the rows kept
-pub swept-closed : (stays : ℕ → Bool) (rows : List Row) (s₀ s s′ : List ℕ) (i w n lost : ℕ) → Formed s₀ → i ≡ rowCount s₀ → n ≡ rowCount s₀ → staying stays s₀ (rowCount s₀) ≡ rows → Swept stays s₀ s i w → Closed s s′ w n lost → Left s₀ s′ rows lost
+pub swept-closed : (stays : ℕ → Bool) (rows : List Row) (s₀ s s′ : List ℕ) (i w n lost : ℕ) → Formed s₀ → i ≡ rowCount s₀ → n ≡ rowCount s₀ → staying stays s₀ (rowCount s₀) ≡ rows → Swept stays s₀ s i w → Closed s s′ w n lost → RowsLeft s₀ s′ rows lost
 unfolding decode firstRows
 swept-closed stays rows s₀ s s′ i w n lost f all-of-them too are p c =
     record {
@@ -123,7 +123,7 @@ swept-closed stays rows s₀ s s′ i w n lost f all-of-them too are p c =
     kept-are = p .rows ∙ ap (staying stays s₀) all-of-them ∙ are
 
     new : firstRows s′ (rowCount s′) ≡ rows
-    new = ap (firstRows s′) (c .count) ∙ rows-same s s′ w (omega (arith, p .within, f .rows)) (λ j a b. c .kept j a b) ∙ kept-are
+    new = ap (firstRows s′) (c .count) ∙ rows-first-same s s′ w (omega (arith, p .within, f .rows)) (λ j a b. c .kept j a b) ∙ kept-are
 
     zeros : (k : ℕ) → rowCount s′ * 3 + 65 ≤ k → k < 833 → (k < rowPlace (rowCount s₀)) ⊎ (rowPlace (rowCount s₀) ≤ k) → getD s′ k 0 ≡ 0
     zeros k a b (inl h) = c .zeros k (omega (arith, c .count)) (omega arith)
@@ -141,7 +141,7 @@ swept-closed stays rows s₀ s s′ i w n lost f all-of-them too are p c =
         }
 
 -- where there are no rows, none is left, and nothing changes
-pub none-left : (ok : List Row → Row → Bool) (s : List ℕ) → Formed s → rowCount s ≡ 0 → Left s s (left ok (decode s .rows)) 0
+pub none-left : (ok : List Row → Row → Bool) (s : List ℕ) → Formed s → rowCount s ≡ 0 → RowsLeft s s (left ok (decode s .rows)) 0
 unfolding decode firstRows left
 none-left ok s f e =
     record {

@@ -5,7 +5,7 @@ use mathlib.Core.Bool.{Bool, true, false, not, cond}
 use mathlib.Core.List.{List, [], _∷_, _++_}
 use lib.Dec.{eqb}
 use lib.ListN.{length, getD}
-use Rattle.model.specs.Records.{withRows}
+use Rattle.model.specs.Values.{withRows}
 use Rattle.model.specs.Layout.{decode, encode, rowCountAt, rowsAt, rowCount}
 use Rattle.model.specs.Limits.{rowWidth}
 use Rattle.model.specs.declared.Row.{Row}
@@ -49,6 +49,6 @@ pub record Closed (s s′ : List ℕ) (w n lost : ℕ) : Type 0 where
   pub lost-count : lost + w ≡ n
 
 -- the state with these rows and nothing else changed; `lost` is the rows lost
-pub record Left (s s′ : List ℕ) (rows : List Row) (lost : ℕ) : Type 0 where
+pub record RowsLeft (s s′ : List ℕ) (rows : List Row) (lost : ℕ) : Type 0 where
   pub state : s′ ≡ encode (withRows (decode s) rows)
   pub count : lost + length rows ≡ length (decode s .rows)

@@ -13,10 +13,10 @@ ghost use Rattle.model.specs.Calls.{ofUser};
 ghost use Rattle.table.specs.Entries.{worldAt, Sized};
 ghost use Rattle.index.specs.Owned.{InRange};
 ghost use Rattle.fall.specs.Writes.{Moved, Zeroed};
-ghost use Rattle.fall.specs.Changes.{rowPlace, Settled, isKept, Swept, Closed, Left};
-use model::ROW_COUNT;
+ghost use Rattle.fall.specs.Changes.{rowPlace, Settled, isKept, Swept, Closed, RowsLeft};
+use model::ROW_COUNT_AT;
 use model::ROW_WIDTH;
-use model::ROWS;
+use model::ROWS_AT;
 
 // The n numbers from `from` on are moved down to `to`.
 pub fn move_down(s: &mut [u16], from: usize, to: usize, n: usize)
@@ -48,7 +48,12 @@ fn keep_row(state: &mut [u16], w: usize, i: usize)
     ensures { λ r. ⌜ Moved (now (state .entry)) (now (state .exit)) (rowPlace i) (rowPlace w) 3 ⌝ }
 {
     if w < i {
-        move_down(state, i * ROW_WIDTH + ROWS, w * ROW_WIDTH + ROWS, ROW_WIDTH);
+        move_down(
+            state,
+            i * ROW_WIDTH + ROWS_AT,
+            w * ROW_WIDTH + ROWS_AT,
+            ROW_WIDTH,
+        );
     }
 }
 
@@ -69,8 +74,8 @@ fn close(state: &mut [u16], w: usize, n: usize) -> u16
     requires { ⌜ (length (now state) ≡ stateSize) × (w ≤ n) × (n ≤ mostRows) ⌝ }
     ensures { λ r. ⌜ Closed (now (state .entry)) (now (state .exit)) w n r ⌝ }
 {
-    zero(state, w * ROW_WIDTH + ROWS, n * ROW_WIDTH + ROWS);
-    state[ROW_COUNT] = w as u16;
+    zero(state, w * ROW_WIDTH + ROWS_AT, n * ROW_WIDTH + ROWS_AT);
+    state[ROW_COUNT_AT] = w as u16;
     (n - w) as u16
 }
 
@@ -91,9 +96,9 @@ fn sweep(state: &mut [u16], verdicts: &[u8], n: usize) -> usize
 // Rows that have lost their support fall. Where there are none, nothing is made ready.
 pub fn fall(rules: &[u16], kinds: &[u16], state: &mut [u16]) -> u16
     requires { ⌜ (wellFormed (now state) ≡ true) × InRange (now state) ⌝ }
-    ensures { λ r. ⌜ Left (now (state .entry)) (now (state .exit)) (left (supported (worldAt (now (rules .entry)) (now (kinds .entry)) (now (state .entry)))) (decode (now (state .entry)) .rows)) r ⌝ }
+    ensures { λ r. ⌜ RowsLeft (now (state .entry)) (now (state .exit)) (left (supported (worldAt (now (rules .entry)) (now (kinds .entry)) (now (state .entry)))) (decode (now (state .entry)) .rows)) r ⌝ }
 {
-    let n = table::wide(state[ROW_COUNT]);
+    let n = table::wide(state[ROW_COUNT_AT]);
     if n == 0 {
         return 0;
     }
@@ -106,9 +111,9 @@ pub fn fall(rules: &[u16], kinds: &[u16], state: &mut [u16]) -> u16
 // The user's rows go.
 pub fn drop_user(state: &mut [u16], user: u16) -> u16
     requires { ⌜ wellFormed (now state) ≡ true ⌝ }
-    ensures { λ r. ⌜ Left (now (state .entry)) (now (state .exit)) (without (ofUser user) (decode (now (state .entry)) .rows)) r ⌝ }
+    ensures { λ r. ⌜ RowsLeft (now (state .entry)) (now (state .exit)) (without (ofUser user) (decode (now (state .entry)) .rows)) r ⌝ }
 {
-    let n = table::wide(state[ROW_COUNT]);
+    let n = table::wide(state[ROW_COUNT_AT]);
     let mut i: usize = 0;
     let mut w: usize = 0;
     while i < n {

@@ -9,7 +9,7 @@ use lib.Dec.{eqb}
 use lib.ListN.{length, getD, take}
 use borrow.Author.Tests.{lt-ltb, le-ltb}
 use Rattle.model.specs.Lists.{all}
-use Rattle.model.specs.Records.{Policy, State, World, worldOf}
+use Rattle.model.specs.Values.{Policy, State, World, worldOf}
 use Rattle.model.specs.Layout.{policyOf, decode}
 use Rattle.model.specs.Conditions.{Condition, role, kind, fact, malformed, meant, activating, membership, prerequisiteRoles, kindNumbered, ruleNumbered, noKind, active, someStands, holds, allHold, supported, satisfied}
 use Rattle.model.specs.declared.Rule.{Rule}

@@ -7,7 +7,7 @@ use lib.Dec.{eqb, ltb}
 use lib.ListN.{getD}
 use Rattle.model.specs.Lists.{all}
 use Rattle.model.specs.Limits.{roles}
-use Rattle.model.specs.Records.{World}
+use Rattle.model.specs.Values.{World}
 use Rattle.model.specs.Conditions.{Condition, role, kind, fact, malformed, meant, activating, membership, prerequisiteRoles, kindNumbered, ruleNumbered}
 use Rattle.model.specs.declared.Rule.{Rule}
 use Rattle.model.specs.declared.Row.{Row}

@@ -14,13 +14,13 @@ ghost use Rattle.model.specs.Conditions.{meant, activating, prerequisiteRoles, 
 ghost use Rattle.table.specs.Entries.{worldAt, withoutRights, Sized};
 ghost use Rattle.index.specs.Marked.{has, roleMarked, holdsBy, allHoldBy, supportedBy};
 ghost use Rattle.index.specs.Owned.{InRange, Own};
-use model::CERTIFICATE_COUNT;
+use model::CERTIFICATE_COUNT_AT;
 use model::FACTS_END;
 use model::FIRST_FACT;
 use model::FIRST_KIND;
 use model::FIRST_MALFORMED;
 use model::ROLES;
-use model::ROW_COUNT;
+use model::ROW_COUNT_AT;
 use model::Row;
 use model::Rule;
 
@@ -143,7 +143,7 @@ pub fn mark_roles(state: &[u16], user: u16, own: &mut [bool])
     requires { ⌜ InRange (now state) × (now own ≡ replicate 384 false) ⌝ }
     ensures { λ r. ⌜ Own user (now (own .exit)) (decode (now (state .entry)) .rows) [] ⌝ }
 {
-    let n = table::wide(state[ROW_COUNT]);
+    let n = table::wide(state[ROW_COUNT_AT]);
     let mut i: usize = 0;
     while i < n {
         let row = table::row_at(state, i);
@@ -159,7 +159,7 @@ pub fn mark_kinds(state: &[u16], user: u16, own: &mut [bool])
     requires { ⌜ InRange (now state) × Own user (now own) (decode (now state) .rows) [] ⌝ }
     ensures { λ r. ⌜ Own user (now (own .exit)) (decode (now (state .entry)) .rows) (decode (now (state .entry)) .certificates) ⌝ }
 {
-    let n = table::wide(state[CERTIFICATE_COUNT]);
+    let n = table::wide(state[CERTIFICATE_COUNT_AT]);
     let mut j: usize = 0;
     while j < n {
         let certificate = table::certificate_at(state, j);

@@ -8,7 +8,7 @@ use lib.Dec.{T, lt→ltb, le→leb}
 use lib.ListN.{length}
 use borrow.Author.Tests.{lt-leb}
 use Rattle.model.specs.Lists.{every, firstPlace}
-use Rattle.model.specs.Records.{withCertificates}
+use Rattle.model.specs.Values.{withCertificates}
 use Rattle.model.specs.Layout.{policyOf, decode, encode, certificateCount}
 use Rattle.model.specs.Conditions.{kindNumbered, active}
 use Rattle.model.specs.Sound.{sameCertificate}
@@ -17,7 +17,7 @@ use Rattle.model.specs.Words.{Sound, none, here, later}
 use Rattle.model.specs.declared.Answer.{Answer}
 use Rattle.model.proofs.Tests.{of-true, of-false, found-any, not-found}
 use Rattle.table.specs.Entries.{withoutRights}
-use Rattle.inner.specs.Lent.{lent, Answers}
+use Rattle.inner.specs.Promise.{lent, Answers}
 use Rattle.inner.proofs.Codes.{own-refuses, own-accepts, in-range, found, certificate-length, some-kind}
 
 module _ (rules kinds rights s : List ℕ) (h : Sound (lent rules kinds rights) s) (b a k : ℕ) where

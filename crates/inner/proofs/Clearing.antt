@@ -12,7 +12,7 @@ use Rattle.model.specs.Calls.{fresh, freshOn, courseOf}
 use Rattle.model.specs.Words.{none, later}
 use Rattle.model.specs.declared.Answer.{Answer}
 use Rattle.fall.specs.Writes.{Zeroed}
-use Rattle.inner.specs.Lent.{lent, Answers}
+use Rattle.inner.specs.Promise.{lent, Answers}
 use Rattle.inner.proofs.Codes.{accepts, found}
 
 pub fresh-zeros : (s s′ : List ℕ) (r : Answer) → (r .code ≡ 0) × (r .second ≡ 0) → length s ≡ 1602 → Zeroed s s′ 0 1602 → Answers (lent [] [] []) s fresh r s′

@@ -9,7 +9,7 @@ use lib.Dec.{T, leb→le, lt→ltb}
 use lib.ListN.{length, getD}
 use borrow.Author.Tests.{le-ltb}
 use Rattle.model.specs.Lists.{every}
-use Rattle.model.specs.Records.{Tables}
+use Rattle.model.specs.Values.{Tables}
 use Rattle.model.specs.Layout.{policyOf, decode, encode, rowCount, ruleFrom, kindFrom, rowFrom, rowNumbers, certificateCount, certificateFrom, certificateNumbers}
 use Rattle.model.specs.Conditions.{active}
 use Rattle.model.specs.Sound.{policyClauses, soundPolicy, wellFormed, sound}
@@ -22,7 +22,7 @@ use Rattle.table.specs.Entries.{firstRows, Sized}
 use Rattle.table.proofs.Entries.{length-entries, sized}
 use Rattle.index.specs.Owned.{InRange}
 use Rattle.sound.proofs.Ranges.{sound-in-range}
-use Rattle.inner.specs.Lent.{lent, AnswersWith}
+use Rattle.inner.specs.Promise.{lent, AnswersWith}
 use Rattle.model.proofs.Tests.{is-true, of-true, of-false, not-not-of, Each, each, of-each}
 use Rattle.model.proofs.Refusals.{only-first, answer-code, refused-unchanged, accepted-done}
 

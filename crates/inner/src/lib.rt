@@ -12,15 +12,15 @@ ghost use Rattle.model.specs.Calls.{fresh as freshCall, activate as activateCal
 ghost use Rattle.model.specs.Words.{Sound};
 ghost use Rattle.table.specs.Entries.{worldAt, withoutRights, Sized};
 ghost use Rattle.index.specs.Marked.{has, satisfiedBy};
-ghost use Rattle.inner.specs.Lent.{lent, Answers};
+ghost use Rattle.inner.specs.Promise.{lent, Answers};
 use model::Answer;
-use model::CERTIFICATE_COUNT;
+use model::CERTIFICATE_COUNT_AT;
 use model::Certificate;
 use model::KIND_WIDTH;
 use model::MOST_CERTIFICATES;
 use model::MOST_ROWS;
 use model::ROLES;
-use model::ROW_COUNT;
+use model::ROW_COUNT_AT;
 use model::RULE_WIDTH;
 use model::Row;
 use model::STATE_SIZE;
@@ -57,7 +57,7 @@ pub fn find_certificate(state: &[u16], certificate: Certificate) -> usize
     requires { ⌜ Sized (now state) ⌝ }
     ensures { λ r. ⌜ r ≡ firstPlace (sameCertificate certificate) (decode (now (state .entry)) .certificates) ⌝ }
 {
-    let n = table::wide(state[CERTIFICATE_COUNT]);
+    let n = table::wide(state[CERTIFICATE_COUNT_AT]);
     let mut i: usize = 0;
     while i < n {
         if sound::same_certificate(certificate, table::certificate_at(state, i)) {
@@ -105,7 +105,7 @@ pub fn activate(
     if rules.len() / RULE_WIDTH <= i {
         return refused(5);
     }
-    let k = table::wide(state[ROW_COUNT]);
+    let k = table::wide(state[ROW_COUNT_AT]);
     if MOST_ROWS <= k {
         return refused(6);
     }
@@ -123,7 +123,7 @@ fn is_appointer(kinds: &[u16], state: &[u16], user: u16, kind: u16) -> bool
     ensures { λ r. ⌜ r ≡ active (decode (now (state .entry)) .rows) user (kindNumbered (policyOf (withoutRights [] (now (kinds .entry)))) kind .appointer) ⌝ }
 {
     let row = table::kind_numbered(kinds, table::wide(kind));
-    let k = table::wide(state[ROW_COUNT]);
+    let k = table::wide(state[ROW_COUNT_AT]);
     table::is_active(state, k, user, row.appointer)
 }
 
@@ -156,7 +156,7 @@ pub fn appoint(
         kind,
         appointer,
     };
-    let n = table::wide(state[CERTIFICATE_COUNT]);
+    let n = table::wide(state[CERTIFICATE_COUNT_AT]);
     if find_certificate(state, certificate) < n {
         return refused(8);
     }

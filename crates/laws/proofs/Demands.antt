@@ -9,7 +9,7 @@ use native.Mathlib.Omega.{arith}
 use lib.Dec.{T}
 use lib.ListN.{replicate}
 use Rattle.model.specs.Limits.{users, roles, privileges, mostRows, stateSize, accepted}
-use Rattle.model.specs.Records.{Tables, Policy, State, worldOf}
+use Rattle.model.specs.Values.{Tables, Policy, State, worldOf}
 use Rattle.model.specs.Layout.{policyOf, decode, encode}
 use Rattle.model.specs.Conditions.{isRow, active, supported, restsOn}
 use Rattle.model.specs.Left.{Largest}

@@ -9,11 +9,11 @@ use mathlib.Core.List.{List, [], _∷_, _++_, List·Permᴰ, List·Permᴰ·cons
 use native.Mathlib.Omega.{arith}
 use lib.Dec.{T}
 use lib.ListN.{replicate}
-use Rattle.model.specs.Records.{Tables, worldOf}
+use Rattle.model.specs.Values.{Tables, worldOf}
 use Rattle.model.specs.Layout.{policyOf, decode, encode}
 use Rattle.model.specs.Conditions.{meant, active, someStands, holds, satisfied, supported, rolesAsked, restsOn}
 use Rattle.model.specs.Left.{left, Largest}
-use Rattle.model.specs.Sound.{conditionFits, ruleClauses, kindClauses, rightClauses, policyClauses, rowClauses, certificateClauses, formClauses, soundRecords, sound}
+use Rattle.model.specs.Sound.{conditionFits, ruleClauses, kindClauses, rightClauses, policyClauses, rowClauses, certificateClauses, formClauses, soundValues, sound}
 use Rattle.model.specs.Effective.{direct, effectively, Carries}
 use Rattle.model.specs.Outcome.{Outcome, Keeps, judgedFirst, decided}
 use Rattle.model.specs.Calls.{Call, activate, environment, invoke, effective, settled, activateOn, withdrawOn, environmentOn, logoutOn, effectiveOn, courseOf, answer}
@@ -53,7 +53,7 @@ midday =
     ++ (2 ∷ 20 ∷ 0 ∷ 10 ∷ 20 ∷ 1 ∷ 10 ∷ replicate 762 0)
 
 sound-yard : Sound yard midday
-unfolding yard midday policyOf decode meant active someStands holds supported conditionFits ruleClauses kindClauses rightClauses policyClauses rowClauses certificateClauses formClauses soundRecords sound
+unfolding yard midday policyOf decode meant active someStands holds supported conditionFits ruleClauses kindClauses rightClauses policyClauses rowClauses certificateClauses formClauses soundValues sound
 sound-yard = record { policy = tt; state = tt }
 
 -- what a call answers at midday, by computation
@@ -64,7 +64,7 @@ at-midday c = answer yard midday [] c
 
 -- the technician is on duty already
 active-already : at-midday (activate 20 1) .code ≡ 4
-unfolding yard midday policyOf decode encode meant active someStands holds satisfied supported left conditionFits ruleClauses kindClauses rightClauses policyClauses rowClauses certificateClauses formClauses soundRecords sound judgedFirst decided activateOn courseOf answer
+unfolding yard midday policyOf decode encode meant active someStands holds satisfied supported left conditionFits ruleClauses kindClauses rightClauses policyClauses rowClauses certificateClauses formClauses soundValues sound judgedFirst decided activateOn courseOf answer
 active-already = refl
 
 yard-refusal : Unchanged midday [] (at-midday (activate 20 1))
@@ -85,7 +85,7 @@ yard-zeros = zeros-are-sound (policyOf yard)
 
 -- the yard is closed: five roles fall, each on the one below it, and the foreman stays
 closed : (at-midday (environment 0 0) .code ≡ 0) × (at-midday (environment 0 0) .second ≡ 5) × (decode (at-midday (environment 0 0) .state) .rows ≡ record { user = 10; role = 9; rule = 5 } ∷ [])
-unfolding yard midday policyOf decode encode meant active someStands holds satisfied supported left conditionFits ruleClauses kindClauses rightClauses policyClauses rowClauses certificateClauses formClauses soundRecords sound judgedFirst decided settled environmentOn courseOf answer
+unfolding yard midday policyOf decode encode meant active someStands holds satisfied supported left conditionFits ruleClauses kindClauses rightClauses policyClauses rowClauses certificateClauses formClauses soundValues sound judgedFirst decided settled environmentOn courseOf answer
 closed = (refl, refl, refl)
 
 yard-sound : T (sound (policyOf yard) (at-midday (environment 0 0) .state))
@@ -125,7 +125,7 @@ yard-allowed = allowed-exactly-if yard midday [] 20 7 sound-yard (omega arith) (
 
 -- role 5 carries the reading of role 3, through the prerequisite role of its certificate
 closer : T (active (decode midday .rows) 20 5) × (at-midday (effective 20 5 7) .second ≡ 1)
-unfolding yard midday policyOf decode encode meant active someStands holds satisfied supported rolesAsked restsOn left conditionFits ruleClauses kindClauses rightClauses policyClauses rowClauses certificateClauses formClauses soundRecords sound direct effectively judgedFirst decided effectiveOn courseOf answer
+unfolding yard midday policyOf decode encode meant active someStands holds satisfied supported rolesAsked restsOn left conditionFits ruleClauses kindClauses rightClauses policyClauses rowClauses certificateClauses formClauses soundValues sound direct effectively judgedFirst decided effectiveOn courseOf answer
 closer = (tt, refl)
 
 yard-carries : Carries (policyOf yard) (decode midday .rows) 20 7 5
@@ -171,7 +171,7 @@ yard-at-once = ends-as-all-at-once yard midday sound-yard closing
 
 -- the appointment alone costs roles 2 to 5, the whole list all six
 handover : (run yard midday (appointment ∷ []) .lost ≡ 4) × (run yard midday closing .lost ≡ 6)
-unfolding yard midday appointment nobody's closing policyOf decode encode meant active someStands holds satisfied supported left conditionFits ruleClauses kindClauses rightClauses policyClauses rowClauses certificateClauses formClauses soundRecords sound judgedFirst decided settled withdrawOn environmentOn logoutOn courseOf answer
+unfolding yard midday appointment nobody's closing policyOf decode encode meant active someStands holds satisfied supported left conditionFits ruleClauses kindClauses rightClauses policyClauses rowClauses certificateClauses formClauses soundValues sound judgedFirst decided settled withdrawOn environmentOn logoutOn courseOf answer
 handover = (refl, refl)
 
 yard-lost : run yard midday closing .lost + activeCount (run yard midday closing .state) ≡ activeCount midday
@@ -202,7 +202,7 @@ morning =
     ∷ []
 
 counted : (tally yard morning .granted ≡ 2) × (tally yard morning .lost ≡ 1)
-unfolding yard morning grantedAfter lostAfter next policyOf decode encode meant active someStands holds satisfied supported left conditionFits ruleClauses kindClauses rightClauses policyClauses rowClauses certificateClauses formClauses soundRecords sound judgedFirst decided settled activateOn environmentOn courseOf answer
+unfolding yard morning grantedAfter lostAfter next policyOf decode encode meant active someStands holds satisfied supported left conditionFits ruleClauses kindClauses rightClauses policyClauses rowClauses certificateClauses formClauses soundValues sound judgedFirst decided settled activateOn environmentOn courseOf answer
 counted = (refl, refl)
 
 yard-balance : activeCount (tally yard morning .state) ≡ 1

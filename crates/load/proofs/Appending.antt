@@ -10,13 +10,13 @@ use lib.Dec.{eqb, ltb}
 use lib.ListN.{length, getD, take, drop, set, length-drop}
 use lib.Seq.{take-suc, take-suc-set, take-all}
 use borrow.Author.Tests.{ne-eqb, ltb-true}
-use Rattle.model.specs.Records.{Tables}
+use Rattle.model.specs.Values.{Tables}
 use Rattle.model.specs.Layout.{number}
 use Rattle.model.proofs.Tests.{lt-or-ge}
 use Rattle.model.proofs.Numbers.{cells, part-cells}
 use Rattle.program.specs.Program.{ruleRow, kindRow, rightRow, withRow}
 use Rattle.program.specs.declared.Line.{Line}
-use Rattle.load.specs.Rows.{tablesOf, hasRoom}
+use Rattle.load.specs.Loading.{tablesOf, hasRoom}
 use Rattle.load.specs.declared.Counts.{Counts}
 
 -- ── number by number ──

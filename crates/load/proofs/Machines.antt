@@ -13,7 +13,7 @@ use lib.ListN.{length, take, replicate}
 use lib.Seq.{length-take-le}
 use borrow.Author.Tests.{lt-ltb, le-ltb, ne-eqb, ltb-false, lt-leb, le-leb}
 use Rattle.model.specs.Lists.{any}
-use Rattle.model.specs.Records.{Tables}
+use Rattle.model.specs.Values.{Tables}
 use Rattle.model.specs.Layout.{encode}
 use Rattle.model.specs.Calls.{answer}
 use Rattle.model.proofs.Tests.{or-later, lt-or-ge}
@@ -24,7 +24,7 @@ use Rattle.program.specs.declared.Line.{Line}
 use Rattle.program.proofs.Counted.{counted}
 use Rattle.reader.specs.Reading.{recordAt, lineAt, nextAt}
 use Rattle.reader.proofs.Walking.{lines-from, none-from, next-behind, next-within}
-use Rattle.load.specs.Rows.{tablesOf, hasRoom, running, linesFrom, Loads}
+use Rattle.load.specs.Loading.{tablesOf, hasRoom, running, linesFrom, Loads}
 use Rattle.load.specs.declared.Counts.{Counts}
 use Rattle.load.proofs.Appending.{room, rules-below, kinds-below, rights-below, is-right}
 
@@ -54,31 +54,31 @@ stopped-stays m (l ∷ ls) e = ap (λ (x : Machine). steps x ls) (still m l e) �
 -- ── the ways to be bad, by the line's word ──
 
 -- the ways for a word w: whether each table is full, and whether an event has come
-abbrev pub some : ℕ → Bool → Bool → Bool → Bool → Bool
-some w rules kinds rights came = any (λ (way : Bool). way) (eqb w 11 ∷ (eqb w 0 && rules) ∷ (eqb w 1 && kinds) ∷ (eqb w 2 && rights) ∷ (ltb w 3 && came) ∷ [])
+abbrev pub badBy : ℕ → Bool → Bool → Bool → Bool → Bool
+badBy w rules kinds rights came = any (λ (way : Bool). way) (eqb w 11 ∷ (eqb w 0 && rules) ∷ (eqb w 1 && kinds) ∷ (eqb w 2 && rights) ∷ (ltb w 3 && came) ∷ [])
 
-pub bad-is : (m : Machine) (l : Line) → isBad m l ≡ some (l .word) (isFull 512 11 (m .tables .rules)) (isFull 128 7 (m .tables .kinds)) (isFull 2048 2 (m .tables .rights)) (m .eventCame)
+pub bad-is : (m : Machine) (l : Line) → isBad m l ≡ badBy (l .word) (isFull 512 11 (m .tables .rules)) (isFull 128 7 (m .tables .kinds)) (isFull 2048 2 (m .tables .rights)) (m .eventCame)
 unfolding badWays
 bad-is m l = refl
 
 -- an event is not bad, whatever has come
-pub event-not-bad : (w : ℕ) (a b c came : Bool) → 3 ≤ w → w < 11 → some w a b c came ≡ false
+pub event-not-bad : (w : ℕ) (a b c came : Bool) → 3 ≤ w → w < 11 → badBy w a b c came ≡ false
 event-not-bad w a b c came h k =
     λ i.
     any (λ (way : Bool). way)
     (ne-eqb w 11 (λ e. omega (arith, e)) i ∷ (ne-eqb w 0 (λ e. omega (arith, e)) i && a) ∷ (ne-eqb w 1 (λ e. omega (arith, e)) i && b) ∷ (ne-eqb w 2 (λ e. omega (arith, e)) i && c) ∷ (le-ltb w 3 h i && came) ∷ [])
 
 -- a word past the policy's is as bad before the first event as after it
-came-or-not : (w : ℕ) (a b c : Bool) → 3 ≤ w → some w a b c false ≡ some w a b c true
+came-or-not : (w : ℕ) (a b c : Bool) → 3 ≤ w → badBy w a b c false ≡ badBy w a b c true
 came-or-not w a b c h = (λ i. any (λ (way : Bool). way) (eqb w 11 ∷ (eqb w 0 && a) ∷ (eqb w 1 && b) ∷ (eqb w 2 && c) ∷ (le-ltb w 3 h i && false) ∷ [])) ∙ sym (λ i. any (λ (way : Bool). way) (eqb w 11 ∷ (eqb w 0 && a) ∷ (eqb w 1 && b) ∷ (eqb w 2 && c) ∷ (le-ltb w 3 h i && true) ∷ []))
 
 -- a record of the policy after an event
-pub policy-after-event : (w : ℕ) (a b c : Bool) → w < 3 → some w a b c true ≡ true
+pub policy-after-event : (w : ℕ) (a b c : Bool) → w < 3 → badBy w a b c true ≡ true
 policy-after-event w a b c h =
     or-later (eqb w 11) _ (or-later (eqb w 0 && a) _ (or-later (eqb w 1 && b) _ (or-later (eqb w 2 && c) _ (ap (λ (v : Bool). (v && true) || false) (lt-ltb w 3 h)))))
 
-pub unknown-bad : (w : ℕ) (a b c came : Bool) → w ≡ 11 → some w a b c came ≡ true
-unknown-bad w a b c came e = ap (λ (n : ℕ). some n a b c came) e
+pub unknown-bad : (w : ℕ) (a b c came : Bool) → w ≡ 11 → badBy w a b c came ≡ true
+unknown-bad w a b c came e = ap (λ (n : ℕ). badBy n a b c came) e
 
 -- ── what a step comes to ──
 
@@ -103,38 +103,38 @@ abbrev pub loading : Tables → ℕ → Machine
 loading t taken = record { tables = t; state = replicate 1602 0; eventCame = false; taken = taken; written = []; stopped = false }
 
 module _ (rules kinds rights : List ℕ) (c : Counts) (size₁ : c .rules * 11 ≤ length rules) (size₂ : c .kinds * 7 ≤ length kinds) (size₃ : c .rights * 2 ≤ length rights) (l : Line) where
-  abbrev full₁ : Bool
-  full₁ = isFull 512 11 (take (c .rules * 11) rules)
+  abbrev fullRules : Bool
+  fullRules = isFull 512 11 (take (c .rules * 11) rules)
 
-  abbrev full₂ : Bool
-  full₂ = isFull 128 7 (take (c .kinds * 7) kinds)
+  abbrev fullKinds : Bool
+  fullKinds = isFull 128 7 (take (c .kinds * 7) kinds)
 
-  abbrev full₃ : Bool
-  full₃ = isFull 2048 2 (take (c .rights * 2) rights)
+  abbrev fullRights : Bool
+  fullRights = isFull 2048 2 (take (c .rights * 2) rights)
 
   -- with room for the line it is not bad, and it is of the policy
-  room-good : hasRoom c l ≡ true → (some (l .word) full₁ full₂ full₃ false ≡ false) × (l .word < 3)
+  room-good : hasRoom c l ≡ true → (badBy (l .word) fullRules fullKinds fullRights false ≡ false) × (l .word < 3)
   room-good h = go (lt-or-ge (l .word) 1) (lt-or-ge (l .word) 2)
     where
-      go : (l .word < 1) ⊎ (1 ≤ l .word) → (l .word < 2) ⊎ (2 ≤ l .word) → (some (l .word) full₁ full₂ full₃ false ≡ false) × (l .word < 3)
-      go (inl a) b = let e : l .word ≡ 0 = omega arith in ((λ i. some (e i) (free 512 11 rules (c .rules) (omega arith) size₁ (rules-below c l h e) i) full₂ full₃ false), omega arith)
-      go (inr a) (inl b) = let e : l .word ≡ 1 = omega arith in ((λ i. some (e i) full₁ (free 128 7 kinds (c .kinds) (omega arith) size₂ (kinds-below c l h e) i) full₃ false), omega arith)
+      go : (l .word < 1) ⊎ (1 ≤ l .word) → (l .word < 2) ⊎ (2 ≤ l .word) → (badBy (l .word) fullRules fullKinds fullRights false ≡ false) × (l .word < 3)
+      go (inl a) b = let e : l .word ≡ 0 = omega arith in ((λ i. badBy (e i) (free 512 11 rules (c .rules) (omega arith) size₁ (rules-below c l h e) i) fullKinds fullRights false), omega arith)
+      go (inr a) (inl b) = let e : l .word ≡ 1 = omega arith in ((λ i. badBy (e i) fullRules (free 128 7 kinds (c .kinds) (omega arith) size₂ (kinds-below c l h e) i) fullRights false), omega arith)
       go (inr a) (inr b) =
           let e : l .word ≡ 2 = is-right c l h (λ z. omega arith) (λ z. omega arith) in
-          ((λ i. some (e i) full₁ full₂ (free 2048 2 rights (c .rights) (omega arith) size₃ (rights-below c l h e) i) false), omega (arith, e))
+          ((λ i. badBy (e i) fullRules fullKinds (free 2048 2 rights (c .rights) (omega arith) size₃ (rights-below c l h e) i) false), omega (arith, e))
 
   row-taken : (taken : ℕ) → hasRoom c l ≡ true → step (loading (tablesOf rules kinds rights c) taken) l ≡ loading (withRow (tablesOf rules kinds rights c) l) (suc taken)
   unfolding afterPolicy
   row-taken taken h = let g = room-good h in policy-taken (loading (tablesOf rules kinds rights c) taken) l refl (bad-is (loading (tablesOf rules kinds rights c) taken) l ∙ g .0) (g .1)
 
   -- without room for it, a line of the policy is bad, before an event and after it
-  no-room : hasRoom c l ≡ false → l .word < 3 → (came : Bool) → some (l .word) full₁ full₂ full₃ came ≡ true
+  no-room : hasRoom c l ≡ false → l .word < 3 → (came : Bool) → badBy (l .word) fullRules fullKinds fullRights came ≡ true
   no-room h k came = go (lt-or-ge (l .word) 1) (lt-or-ge (l .word) 2)
     where
-      go : (l .word < 1) ⊎ (1 ≤ l .word) → (l .word < 2) ⊎ (2 ≤ l .word) → some (l .word) full₁ full₂ full₃ came ≡ true
-      go (inl a) b = let e : l .word ≡ 0 = omega arith in λ i. some (e i) (full 512 11 rules (c .rules) (omega arith) size₁ (ltb-false (c .rules) 512 (room c l e ∙ h)) i) full₂ full₃ came
-      go (inr a) (inl b) = let e : l .word ≡ 1 = omega arith in λ i. some (e i) full₁ (full 128 7 kinds (c .kinds) (omega arith) size₂ (ltb-false (c .kinds) 128 (room c l e ∙ h)) i) full₃ came
-      go (inr a) (inr b) = let e : l .word ≡ 2 = omega arith in λ i. some (e i) full₁ full₂ (full 2048 2 rights (c .rights) (omega arith) size₃ (ltb-false (c .rights) 2048 (room c l e ∙ h)) i) came
+      go : (l .word < 1) ⊎ (1 ≤ l .word) → (l .word < 2) ⊎ (2 ≤ l .word) → badBy (l .word) fullRules fullKinds fullRights came ≡ true
+      go (inl a) b = let e : l .word ≡ 0 = omega arith in λ i. badBy (e i) (full 512 11 rules (c .rules) (omega arith) size₁ (ltb-false (c .rules) 512 (room c l e ∙ h)) i) fullKinds fullRights came
+      go (inr a) (inl b) = let e : l .word ≡ 1 = omega arith in λ i. badBy (e i) fullRules (full 128 7 kinds (c .kinds) (omega arith) size₂ (ltb-false (c .kinds) 128 (room c l e ∙ h)) i) fullRights came
+      go (inr a) (inr b) = let e : l .word ≡ 2 = omega arith in λ i. badBy (e i) fullRules fullKinds (full 2048 2 rights (c .rights) (omega arith) size₃ (ltb-false (c .rights) 2048 (room c l e ∙ h)) i) came
 
   -- so the program goes on as if an event had come
   events-begin : (taken : ℕ) (ls : List Line) → hasRoom c l ≡ false → steps (loading (tablesOf rules kinds rights c) taken) (l ∷ ls) .written ≡ steps (running (tablesOf rules kinds rights c) (replicate 1602 0) taken []) (l ∷ ls) .written
@@ -147,15 +147,15 @@ module _ (rules kinds rights : List ℕ) (c : Counts) (size₁ : c .rules * 11 �
       after : Machine
       after = running (tablesOf rules kinds rights c) (replicate 1602 0) taken []
 
-      both : (b : Bool) → some (l .word) full₁ full₂ full₃ true ≡ b → 3 ≤ l .word → steps before (l ∷ ls) .written ≡ steps after (l ∷ ls) .written
-      both true e k = bad-written before l ls refl (bad-is before l ∙ came-or-not (l .word) full₁ full₂ full₃ k ∙ e) ∙ sym (bad-written after l ls refl (bad-is after l ∙ e))
+      both : (b : Bool) → badBy (l .word) fullRules fullKinds fullRights true ≡ b → 3 ≤ l .word → steps before (l ∷ ls) .written ≡ steps after (l ∷ ls) .written
+      both true e k = bad-written before l ls refl (bad-is before l ∙ came-or-not (l .word) fullRules fullKinds fullRights k ∙ e) ∙ sym (bad-written after l ls refl (bad-is after l ∙ e))
       both false e k =
-          ap (λ (x : Machine). steps x ls .written) (event-taken before l refl (bad-is before l ∙ came-or-not (l .word) full₁ full₂ full₃ k ∙ e) k)
+          ap (λ (x : Machine). steps x ls .written) (event-taken before l refl (bad-is before l ∙ came-or-not (l .word) fullRules fullKinds fullRights k ∙ e) k)
           ∙ sym (ap (λ (x : Machine). steps x ls .written) (event-taken after l refl (bad-is after l ∙ e) k))
 
       go : (l .word < 3) ⊎ (3 ≤ l .word) → steps before (l ∷ ls) .written ≡ steps after (l ∷ ls) .written
       go (inl k) = bad-written before l ls refl (bad-is before l ∙ no-room h k false) ∙ sym (bad-written after l ls refl (bad-is after l ∙ no-room h k true))
-      go (inr k) = both (some (l .word) full₁ full₂ full₃ true) refl k
+      go (inr k) = both (badBy (l .word) fullRules fullKinds fullRights true) refl k
 
 -- ── the fewest numbers of a record of the policy ──
 

@@ -7,7 +7,7 @@ ghost use lib.ListN.{length, take};
 ghost use mathlib.Core.Bool.{true};
 ghost use Rattle.model.specs.Limits.{mostRules, mostKinds, mostRights};
 ghost use Rattle.program.specs.Program.{ruleRow, kindRow, rightRow, withRow};
-ghost use Rattle.load.specs.Rows.{tablesOf, hasRoom, Loads};
+ghost use Rattle.load.specs.Loading.{tablesOf, hasRoom, Loads};
 use model::KIND_WIDTH;
 use model::MOST_KINDS;
 use model::MOST_RIGHTS;

@@ -8,11 +8,11 @@ use lib.Dec.{T, eqb, ltb, nleb→lt}
 use lib.ListN.{length, replicate}
 use Rattle.model.specs.Lists.{every, allOverEarlier, without, isBit}
 use Rattle.model.specs.Limits.{facts, mostRows, mostCertificates, stateSize}
-use Rattle.model.specs.Records.{Tables, Policy, State, worldOf, withRows, withFact}
+use Rattle.model.specs.Values.{Tables, Policy, State, worldOf, withRows, withFact}
 use Rattle.model.specs.Layout.{policyOf, decode}
 use Rattle.model.specs.Conditions.{satisfied, supported, ruleNumbered}
 use Rattle.model.specs.Left.{left, Supported, Largest}
-use Rattle.model.specs.Sound.{soundPolicy, sound, soundRecords, rowSound, sameCertificate, certificateClauses, formClauses}
+use Rattle.model.specs.Sound.{soundPolicy, sound, soundValues, rowSound, sameCertificate, certificateClauses, formClauses}
 use Rattle.model.specs.Outcome.{judgedFirst}
 use Rattle.model.specs.Calls.{Call, fresh, activate, appoint, revoke, withdraw, environment, logout, invoke, effective, chain, isUser, isRole, hasRow, ofUser, nothing, settled, withoutCertificate, someRuleSatisfied, lowestRule, activateOn, appointOn, revokeOn, withdrawOn, environmentOn, logoutOn, invokeOn, effectiveOn, chainOn, freshOn, courseOf, answer}
 use Rattle.model.specs.declared.Row.{Row}
@@ -46,11 +46,11 @@ pub by-user : (u : ℕ) → ByUser (ofUser u)
 by-user u = record { alike = λ a b e t. subst (λ (n : ℕ). T (eqb n u)) e t }
 
 nothing-sound : (p : Policy) → SoundState p nothing
-unfolding soundRecords
-nothing-sound p = record { fits = record { all-facts = refl; bits = tt; room-for-rows = omega arith; room-for-certificates = omega arith }; records = tt }
+unfolding soundValues
+nothing-sound p = record { fits = record { all-facts = refl; bits = tt; room-for-rows = omega arith; room-for-certificates = omega arith }; values = tt }
 
 pub zeros-sound : (p : Policy) → T (sound p (replicate stateSize 0))
-unfolding sound soundRecords decode formClauses
+unfolding sound soundValues decode formClauses
 zeros-sound p = tt
 
 certificate-gone-fits : (t : State) (c : Certificate) → Fits t → Fits (withoutCertificate t c)

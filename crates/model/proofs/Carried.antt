@@ -6,7 +6,7 @@ use mathlib.Core.Logic.{_↔_, _⊎_, inl, inr}
 use mathlib.Core.List.{List, [], _∷_, _++_, reverse, reverse-cons, reverse-append, reverse-reverse, append-nil, append-assoc, List·Memᴰ, List·Memᴰ·head, List·Memᴰ·tail, List·Memᴰ·cases-cons, List·Memᴰ·not-nil, Memᴰ·append-left, Memᴰ·append-right}
 use lib.Dec.{T, eqb, T-not, not-T}
 use Rattle.model.specs.Lists.{any, allOverEarlier}
-use Rattle.model.specs.Records.{Policy, State, World, worldOf}
+use Rattle.model.specs.Values.{Policy, State, World, worldOf}
 use Rattle.model.specs.Conditions.{isRow, active, restsOn}
 use Rattle.model.specs.Sound.{rowSound}
 use Rattle.model.specs.Effective.{direct, Carries, directly, through, carries, effectively}

@@ -7,11 +7,11 @@ use mathlib.Core.List.{List, [], _∷_, _++_}
 use lib.Dec.{eqb}
 use lib.ListN.{length, replicate}
 use Rattle.model.specs.Lists.{all, filledTo}
-use Rattle.model.specs.Records.{Tables}
+use Rattle.model.specs.Values.{Tables}
 use Rattle.model.specs.Layout.{policyOf, decode, encode}
 use Rattle.model.specs.Conditions.{meant, active, someStands, holds, satisfied, supported, rolesAsked, restsOn}
 use Rattle.model.specs.Left.{left}
-use Rattle.model.specs.Sound.{conditionFits, ruleClauses, kindClauses, rightClauses, policyClauses, rowClauses, certificateClauses, formClauses, soundRecords, sound}
+use Rattle.model.specs.Sound.{conditionFits, ruleClauses, kindClauses, rightClauses, policyClauses, rowClauses, certificateClauses, formClauses, soundValues, sound}
 use Rattle.model.specs.Effective.{direct, effectively}
 use Rattle.model.specs.Outcome.{judgedFirst, decided}
 use Rattle.model.specs.Calls.{Call, fresh, activate, appoint, revoke, withdraw, environment, logout, invoke, settled, activateOn, appointOn, revokeOn, withdrawOn, environmentOn, logoutOn, allowed, invokeOn, effectiveOn, chainOn, freshOn, courseOf, answer}
@@ -190,7 +190,7 @@ table =
     ∷ []
 
 cases : all (all goesRight) table ≡ true
-unfolding table worked last-user outlives wrong-length last-row full-and-unsatisfied two-appointers false-twice own-target malformed-and-unsound policyOf decode encode meant active someStands holds satisfied supported rolesAsked restsOn left conditionFits ruleClauses kindClauses rightClauses policyClauses rowClauses certificateClauses formClauses soundRecords sound direct effectively judgedFirst decided settled activateOn appointOn revokeOn withdrawOn environmentOn logoutOn allowed invokeOn effectiveOn chainOn freshOn courseOf answer
+unfolding table worked last-user outlives wrong-length last-row full-and-unsatisfied two-appointers false-twice own-target malformed-and-unsound policyOf decode encode meant active someStands holds satisfied supported rolesAsked restsOn left conditionFits ruleClauses kindClauses rightClauses policyClauses rowClauses certificateClauses formClauses soundValues sound direct effectively judgedFirst decided settled activateOn appointOn revokeOn withdrawOn environmentOn logoutOn allowed invokeOn effectiveOn chainOn freshOn courseOf answer
 cases = refl
 
 -- "Repeats are allowed.": a condition, a prerequisite role and a right stand twice
@@ -256,5 +256,5 @@ further : List (List Session)
 further = repeats ∷ oneself ∷ without-rows ∷ last-kind ∷ prerequisite-falls ∷ []
 
 further-cases : all (all goesRight) further ≡ true
-unfolding further repeats oneself without-rows last-kind prerequisite-falls policyOf decode encode meant active someStands holds satisfied supported rolesAsked restsOn left conditionFits ruleClauses kindClauses rightClauses policyClauses rowClauses certificateClauses formClauses soundRecords sound direct effectively judgedFirst decided settled activateOn appointOn revokeOn withdrawOn environmentOn logoutOn allowed invokeOn effectiveOn chainOn freshOn courseOf answer
+unfolding further repeats oneself without-rows last-kind prerequisite-falls policyOf decode encode meant active someStands holds satisfied supported rolesAsked restsOn left conditionFits ruleClauses kindClauses rightClauses policyClauses rowClauses certificateClauses formClauses soundValues sound direct effectively judgedFirst decided settled activateOn appointOn revokeOn withdrawOn environmentOn logoutOn allowed invokeOn effectiveOn chainOn freshOn courseOf answer
 further-cases = refl

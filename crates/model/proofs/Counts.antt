@@ -7,7 +7,7 @@ use mathlib.Core.List.{List, [], _∷_, Sublistᴰ}
 use native.Mathlib.Omega.{arith}
 use lib.Dec.{eqb, eqb·suc-zero}
 use lib.ListN.{length, length-append}
-use Rattle.model.specs.Records.{Tables, Policy, State, worldOf, withFact}
+use Rattle.model.specs.Values.{Tables, Policy, State, worldOf, withFact}
 use Rattle.model.specs.Layout.{policyOf, decode, encode}
 use Rattle.model.specs.Conditions.{supported}
 use Rattle.model.specs.Left.{left}

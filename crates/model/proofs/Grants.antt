@@ -9,7 +9,7 @@ use lib.Dec.{T, eqb, leb, eqb→eq, eqb-refl, lt→ltb, leb→le, T-not, not-T}
 use lib.ListN.{length}
 use Rattle.model.specs.Lists.{any, every}
 use Rattle.model.specs.Limits.{users, roles, privileges, mostRows}
-use Rattle.model.specs.Records.{Tables, State, worldOf}
+use Rattle.model.specs.Values.{Tables, State, worldOf}
 use Rattle.model.specs.Layout.{policyOf, decode}
 use Rattle.model.specs.Conditions.{ruleNumbered, active, satisfied}
 use Rattle.model.specs.Sound.{soundPolicy, sound}

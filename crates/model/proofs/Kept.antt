@@ -9,11 +9,11 @@ use lib.Dec.{T, eqb, ltb, lt→ltb, leb→le, T-not, not-T}
 use lib.ListN.{length, take, set, length-append, length-set}
 use Rattle.model.specs.Lists.{any, all, allOverEarlier, without, isBit}
 use Rattle.model.specs.Limits.{users, roles, mostRows, mostCertificates}
-use Rattle.model.specs.Records.{Tables, Policy, State, World, worldOf, withRows, withCertificates, withFact}
+use Rattle.model.specs.Values.{Tables, Policy, State, World, worldOf, withRows, withCertificates, withFact}
 use Rattle.model.specs.Layout.{policyOf}
 use Rattle.model.specs.Conditions.{ruleNumbered, activating, membership, meant, active, isRow, holds, satisfied, supported}
 use Rattle.model.specs.Left.{left}
-use Rattle.model.specs.Sound.{ruleClauses, ruleFits, policyClauses, soundPolicy, rowSound, sameCertificate, certificateClauses, certificateSound, soundRecords}
+use Rattle.model.specs.Sound.{ruleClauses, ruleFits, policyClauses, soundPolicy, rowSound, sameCertificate, certificateClauses, certificateSound, soundValues}
 use Rattle.model.specs.declared.Rule.{Rule}
 use Rattle.model.specs.declared.Row.{Row}
 use Rattle.model.specs.declared.Certificate.{Certificate}
@@ -26,16 +26,16 @@ use Rattle.model.proofs.Support.{active-of, of-active, active-grows, is
 -- ── the two halves of soundness ──
 
 pub sound-certificates : (p : Policy) (t : State) → SoundState p t → T (allOverEarlier (certificateSound p) [] (t .certificates))
-unfolding soundRecords
-sound-certificates p t h = and-left (allOverEarlier (certificateSound p) [] (t .certificates)) (allOverEarlier (rowSound (worldOf p t)) [] (t .rows)) (h .records)
+unfolding soundValues
+sound-certificates p t h = and-left (allOverEarlier (certificateSound p) [] (t .certificates)) (allOverEarlier (rowSound (worldOf p t)) [] (t .rows)) (h .values)
 
 pub sound-rows : (p : Policy) (t : State) → SoundState p t → T (allOverEarlier (rowSound (worldOf p t)) [] (t .rows))
-unfolding soundRecords
-sound-rows p t h = and-right (allOverEarlier (certificateSound p) [] (t .certificates)) (allOverEarlier (rowSound (worldOf p t)) [] (t .rows)) (h .records)
+unfolding soundValues
+sound-rows p t h = and-right (allOverEarlier (certificateSound p) [] (t .certificates)) (allOverEarlier (rowSound (worldOf p t)) [] (t .rows)) (h .values)
 
 sound-state : (p : Policy) (t : State) → Fits t → T (allOverEarlier (certificateSound p) [] (t .certificates)) → T (allOverEarlier (rowSound (worldOf p t)) [] (t .rows)) → SoundState p t
-unfolding soundRecords
-sound-state p t f c r = record { fits = f; records = and-both (allOverEarlier (certificateSound p) [] (t .certificates)) (allOverEarlier (rowSound (worldOf p t)) [] (t .rows)) c r }
+unfolding soundValues
+sound-state p t f c r = record { fits = f; values = and-both (allOverEarlier (certificateSound p) [] (t .certificates)) (allOverEarlier (rowSound (worldOf p t)) [] (t .rows)) c r }
 
 -- ── other rows, or other certificates, where there is room for them ──
 

@@ -11,9 +11,9 @@ use lib.ListN.{length, getD, take, drop, replicate, length-append, length-drop, 
 use lib.Seq.{take-at, drop-at, getD-at, split-at, drop-cons, drop-drop, take-add, take-all, length-take-le}
 use Rattle.model.specs.Lists.{all, joined, isZero, isBit, filledTo, rowsOf}
 use Rattle.model.specs.Limits.{facts, mostRows, rowWidth, mostCertificates, certificateWidth, stateSize}
-use Rattle.model.specs.Records.{Policy, State}
+use Rattle.model.specs.Values.{Policy, State}
 use Rattle.model.specs.Layout.{rowFrom, certificateFrom, fromRow, fromCertificate, decode, encode, rowCount, certificateCount, factNumbers, rowNumbers, certificateNumbers, rowsAt, certificatesAt}
-use Rattle.model.specs.Sound.{formClauses, wellFormed, soundRecords, sound}
+use Rattle.model.specs.Sound.{formClauses, wellFormed, soundValues, sound}
 use Rattle.model.specs.declared.Row.{Row}
 use Rattle.model.specs.declared.Certificate.{Certificate}
 use Rattle.model.specs.Words.{Fits, SoundState}
@@ -283,14 +283,14 @@ module _ (s : List ℕ) (t : T (wellFormed s)) where
 
 pub sound-formed : (p : Policy) (s : List ℕ) → T (sound p s) → T (wellFormed s)
 unfolding sound
-sound-formed p s t = and-left (wellFormed s) (soundRecords p (decode s)) t
+sound-formed p s t = and-left (wellFormed s) (soundValues p (decode s)) t
 
 pub sound-decode : (p : Policy) (s : List ℕ) → T (sound p s) → SoundState p (decode s)
 unfolding sound
-sound-decode p s t = record { fits = decode-fits s (sound-formed p s t); records = and-right (wellFormed s) (soundRecords p (decode s)) t }
+sound-decode p s t = record { fits = decode-fits s (sound-formed p s t); values = and-right (wellFormed s) (soundValues p (decode s)) t }
 
 pub sound-encode : (p : Policy) (t : State) → SoundState p t → T (sound p (encode t))
 unfolding sound
 sound-encode p t h =
-    and-both (wellFormed (encode t)) (soundRecords p (decode (encode t))) (encode-formed t (h .fits))
-    (subst⁻¹ (λ (x : State). T (soundRecords p x)) (decode-encode t (h .fits)) (h .records))
+    and-both (wellFormed (encode t)) (soundValues p (decode (encode t))) (encode-formed t (h .fits))
+    (subst⁻¹ (λ (x : State). T (soundValues p x)) (decode-encode t (h .fits)) (h .values))

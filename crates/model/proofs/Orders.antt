@@ -11,7 +11,7 @@ use lib.ListN.{set}
 use lib.Seq.{set-out}
 use Rattle.model.specs.Lists.{every, without, isBit}
 use Rattle.model.specs.Limits.{facts}
-use Rattle.model.specs.Records.{Tables, Policy, State, worldOf, withRows, withFact}
+use Rattle.model.specs.Values.{Tables, Policy, State, worldOf, withRows, withFact}
 use Rattle.model.specs.Layout.{policyOf, decode, encode}
 use Rattle.model.specs.Conditions.{supported}
 use Rattle.model.specs.Left.{left, Largest}

@@ -8,7 +8,7 @@ use mathlib.Core.List.{List, [], _∷_, _++_, List·Memᴰ, List·Memᴰ·head, 
 use lib.Dec.{T, eqb, ltb, eqb→eq, T-not}
 use lib.ListN.{length, getD}
 use Rattle.model.specs.Lists.{all, allOverEarlier, joined}
-use Rattle.model.specs.Records.{Policy, State, World, worldOf}
+use Rattle.model.specs.Values.{Policy, State, World, worldOf}
 use Rattle.model.specs.Conditions.{Condition, role, kind, fact, malformed, meant, ruleNumbered, kindNumbered, membership, prerequisiteRoles, isRow, active, standsFor, someStands, holds, supported, rolesAsked, restsOn}
 use Rattle.model.specs.Sound.{rowClauses, rowSound}
 use Rattle.model.specs.Limits.{users, roles}

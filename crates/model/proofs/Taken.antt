@@ -10,7 +10,7 @@ use native.Mathlib.Omega.{arith}
 use lib.Dec.{T, eqb, eqb→eq, eqb-refl, T-not, not-T}
 use lib.ListN.{length, getD, set}
 use Rattle.model.specs.Lists.{any, all, allOverEarlier, without, isBit}
-use Rattle.model.specs.Records.{Policy, State, worldOf, withRows}
+use Rattle.model.specs.Values.{Policy, State, worldOf, withRows}
 use Rattle.model.specs.Conditions.{supported}
 use Rattle.model.specs.Left.{Largest}
 use Rattle.model.specs.Sound.{rowSound}

@@ -6,7 +6,7 @@ use lib.Dec.{eqb, ltb, leb}
 use lib.ListN.{length, replicate}
 use Rattle.model.specs.Lists.{every, any, without, firstPlace, isBit, filledTo}
 use Rattle.model.specs.Limits.{users, roles, privileges, facts, mostRows, mostCertificates, stateSize, listSize, unsoundState, outOfRange, alreadyActive, noRuleSatisfied, tableFull, notInAppointerRole, standsAlready, noSuchCertificate, mayNotRevoke, writtenTwice, notActive}
-use Rattle.model.specs.Records.{Tables, Policy, State, worldOf, withRows, withCertificates, withFact}
+use Rattle.model.specs.Values.{Tables, Policy, State, worldOf, withRows, withCertificates, withFact}
 use Rattle.model.specs.Conditions.{kindNumbered, active, satisfied, supported}
 use Rattle.model.specs.Left.{left}
 use Rattle.model.specs.Sound.{sameCertificate}

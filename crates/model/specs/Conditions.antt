@@ -6,7 +6,7 @@ use lib.Dec.{eqb, ltb}
 use lib.ListN.{getD, take, replicate}
 use Rattle.model.specs.Lists.{any, all, joined}
 use Rattle.model.specs.Limits.{mostConditions, mostPrerequisites}
-use Rattle.model.specs.Records.{Policy, World}
+use Rattle.model.specs.Values.{Policy, World}
 use Rattle.model.specs.declared.Rule.{Rule}
 use Rattle.model.specs.declared.Kind.{Kind}
 use Rattle.model.specs.declared.Row.{Row}

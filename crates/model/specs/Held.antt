@@ -2,7 +2,7 @@
 -- at fresh all of them.
 use mathlib.Core.List.{List, [], _∷_, _++_}
 use Rattle.model.specs.Lists.{without}
-use Rattle.model.specs.Records.{Policy, State}
+use Rattle.model.specs.Values.{Policy, State}
 use Rattle.model.specs.Calls.{Call, fresh, activate, appoint, revoke, withdraw, environment, logout, invoke, effective, chain, lowestRule, ofUser}
 use Rattle.model.specs.declared.Row.{Row}
 

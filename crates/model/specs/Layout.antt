@@ -4,7 +4,7 @@ use mathlib.Core.List.{List, [], _∷_, _++_, map}
 use lib.ListN.{length, getD, take, drop}
 use Rattle.model.specs.Lists.{rowsOf, joined, filledTo}
 use Rattle.model.specs.Limits.{facts, ruleWidth, kindWidth, rightWidth, mostRows, rowWidth, mostCertificates, certificateWidth}
-use Rattle.model.specs.Records.{Tables, Policy, State}
+use Rattle.model.specs.Values.{Tables, Policy, State}
 use Rattle.model.specs.declared.Rule.{Rule}
 use Rattle.model.specs.declared.Kind.{Kind}
 use Rattle.model.specs.declared.Right.{Right}

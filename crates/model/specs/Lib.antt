@@ -1,6 +1,6 @@
 pub mod Lists
 pub mod Limits
-pub mod Records
+pub mod Values
 pub mod Layout
 pub mod Conditions
 pub mod Left

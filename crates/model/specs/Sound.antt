@@ -6,7 +6,7 @@ use lib.Dec.{eqb, ltb, leb}
 use lib.ListN.{length, drop}
 use Rattle.model.specs.Lists.{every, any, all, allOverEarlier, isZero, isBit}
 use Rattle.model.specs.Limits.{users, roles, privileges, mostRules, ruleWidth, mostConditions, mostKinds, kindWidth, mostPrerequisites, modes, mostRights, rightWidth, mostRows, rowWidth, mostCertificates, certificateWidth, stateSize}
-use Rattle.model.specs.Records.{Tables, Policy, State, World, worldOf}
+use Rattle.model.specs.Values.{Tables, Policy, State, World, worldOf}
 use Rattle.model.specs.Layout.{policyOf, decode, rowCount, certificateCount, factNumbers, rowNumbers, certificateNumbers}
 use Rattle.model.specs.Conditions.{Condition, role, kind, fact, malformed, meant, activating, prerequisiteRoles, ruleNumbered, active, supported}
 use Rattle.model.specs.declared.Rule.{Rule}
@@ -122,9 +122,9 @@ abbrev pub wellFormed : List ℕ → Bool
 wellFormed s = every (formClauses s)
 
 -- the certificates and the active rows, each judged over those before it
-unfoldable pub soundRecords : Policy → State → Bool
-soundRecords p t = allOverEarlier (certificateSound p) [] (t .certificates) && allOverEarlier (rowSound (worldOf p t)) [] (t .rows)
+unfoldable pub soundValues : Policy → State → Bool
+soundValues p t = allOverEarlier (certificateSound p) [] (t .certificates) && allOverEarlier (rowSound (worldOf p t)) [] (t .rows)
 
 -- "A state is sound if these hold, .."
 unfoldable pub sound : Policy → List ℕ → Bool
-sound p s = wellFormed s && soundRecords p (decode s)
+sound p s = wellFormed s && soundValues p (decode s)

@@ -5,7 +5,7 @@ use mathlib.Core.Bool.{Bool, false, cond}
 use mathlib.Core.List.{List, [], _∷_}
 use lib.Dec.{eqb}
 use Rattle.model.specs.Lists.{any, without}
-use Rattle.model.specs.Records.{Tables, Policy, State, worldOf, withRows}
+use Rattle.model.specs.Values.{Tables, Policy, State, worldOf, withRows}
 use Rattle.model.specs.Conditions.{supported}
 use Rattle.model.specs.Left.{left}
 use Rattle.model.specs.Sound.{sameCertificate}

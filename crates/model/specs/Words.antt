@@ -7,10 +7,10 @@ use lib.Dec.{T}
 use lib.ListN.{length}
 use Rattle.model.specs.Lists.{all, isBit}
 use Rattle.model.specs.Limits.{facts, mostRows, mostCertificates, accepted}
-use Rattle.model.specs.Records.{Tables, Policy, State, worldOf}
+use Rattle.model.specs.Values.{Tables, Policy, State, worldOf}
 use Rattle.model.specs.Layout.{policyOf, decode}
 use Rattle.model.specs.Conditions.{ruleNumbered, satisfied}
-use Rattle.model.specs.Sound.{soundPolicy, soundRecords, sound}
+use Rattle.model.specs.Sound.{soundPolicy, soundValues, sound}
 use Rattle.model.specs.Effective.{direct}
 use Rattle.model.specs.Outcome.{Refusal, Outcome}
 use Rattle.model.specs.declared.Row.{Row}
@@ -30,7 +30,7 @@ pub record Fits (t : State) : Type 0 where
 -- and is sound
 pub record SoundState (p : Policy) (t : State) : Type 0 where
   pub fits : Fits t
-  pub records : T (soundRecords p t)
+  pub values : T (soundValues p t)
 
 -- the code of the first refusal that applies, where none before it does; 0 where none applies
 pub data FirstApplies : List Refusal → ℕ → Type 0 where

@@ -43,13 +43,13 @@ pub const STATE_SIZE: usize = 1602;
 
 pub const FACTS_END: usize = 64;
 
-pub const ROW_COUNT: usize = 64;
+pub const ROW_COUNT_AT: usize = 64;
 
-pub const ROWS: usize = 65;
+pub const ROWS_AT: usize = 65;
 
-pub const CERTIFICATE_COUNT: usize = 833;
+pub const CERTIFICATE_COUNT_AT: usize = 833;
 
-pub const CERTIFICATES: usize = 834;
+pub const CERTIFICATES_AT: usize = 834;
 
 // A row of the rules: "target role, n, m, then eight conditions".
 pub struct Rule {

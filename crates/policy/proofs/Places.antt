@@ -16,7 +16,7 @@ use Rattle.model.proofs.Tests.{below, below-at, of-true, lt-or-ge}
 use Rattle.model.proofs.Meaning.{meant-role, meant-kind, meant-fact, meant-nothing}
 use Rattle.table.proofs.Entries.{length-entries}
 use Rattle.policy.specs.Lent.{kindsOnly}
-use Rattle.policy.specs.Counting.{Counting, Limits}
+use Rattle.policy.specs.Counting.{Counting, RightLimits}
 
 -- both or neither
 abbrev same : Bool → Bool → Bool
@@ -46,7 +46,7 @@ abbrev pairs : List ℕ
 pairs =
     256 ∷ 1024 ∷ 256 ∷ 1024 ∷ 256 ∷ 1024 ∷ 256 ∷ 1024 ∷ 256 ∷ 1024 ∷ 256 ∷ 1024 ∷ 256 ∷ 1024 ∷ 256 ∷ 1024 ∷ 256 ∷ 1024 ∷ 256 ∷ 1024 ∷ 256 ∷ 1024 ∷ 256 ∷ 1024 ∷ 256 ∷ 1024 ∷ 256 ∷ 1024 ∷ 256 ∷ 1024 ∷ 256 ∷ 1024 ∷ []
 
-pub limits-are : Limits pairs
+pub limits-are : RightLimits pairs
 limits-are =
     record {
       size = refl;

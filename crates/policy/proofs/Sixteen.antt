@@ -14,7 +14,7 @@ use Rattle.model.specs.Sound.{rightClauses, rightFits}
 use Rattle.model.proofs.Tests.{all-append}
 use Rattle.table.specs.Entries.{entries, entry, rightAt}
 use Rattle.table.proofs.Entries.{entries-more, right-places}
-use Rattle.policy.specs.Counting.{Limits, keeps}
+use Rattle.policy.specs.Counting.{RightLimits, keeps}
 
 module _ (rights : List ℕ) where
   -- the first i rights fit
@@ -30,7 +30,7 @@ module _ (rights : List ℕ) where
   unfit-stays i zero e = let at : i + 0 ≡ i = omega arith in ap firstFit at ∙ e
   unfit-stays i (suc d) e = let at : i + suc d ≡ i + d + 1 = omega arith in ap firstFit at ∙ fit-next (i + d) ∙ ap (λ (b : Bool). b && rightFits (rightAt rights (i + d))) (unfit-stays i d e)
 
-  module _ (limits : List ℕ) (l : Limits limits) (i : ℕ) where
+  module _ (limits : List ℕ) (l : RightLimits limits) (i : ℕ) where
     numbers : (m : ℕ) → m < 16 → (ltb (getD rights (i * 2 + m * 2) 0) (getD limits (m * 2) 0) && ltb (getD rights (i * 2 + (m * 2 + 1)) 0) (getD limits (m * 2 + 1) 0)) ≡ rightFits (rightAt rights (i + m))
     unfolding rightClauses
     numbers m h =

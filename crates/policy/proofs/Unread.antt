@@ -6,7 +6,7 @@ use lib.Dec.{ltb, leb}
 use lib.ListN.{length, drop}
 use Rattle.model.specs.Lists.{every, all, isZero}
 use Rattle.model.specs.Limits.{roles, mostConditions}
-use Rattle.model.specs.Records.{Policy}
+use Rattle.model.specs.Values.{Policy}
 use Rattle.model.specs.Conditions.{Condition, role, kind, fact, malformed, meant, activating}
 use Rattle.model.specs.Sound.{conditionFits, ruleClauses, ruleFits}
 use Rattle.model.specs.declared.Rule.{Rule}

@@ -13,7 +13,7 @@ pub record Counting (t : List ℕ) : Type 0 where
   pub each : (n j : ℕ) → n ≤ 8 → j < 8 → eqb (getD t (8 - n + j) 0) 1 ≡ ltb j n
 
 -- the limits of sixteen rights, which are a role and a privilege each
-pub record Limits (t : List ℕ) : Type 0 where
+pub record RightLimits (t : List ℕ) : Type 0 where
   pub size : length t ≡ 32
   pub role : (m : ℕ) → m < 16 → getD t (m * 2) 0 ≡ roles
   pub privilege : (m : ℕ) → m < 16 → getD t (m * 2 + 1) 0 ≡ privileges

@@ -2,7 +2,7 @@
 -- the policy.
 use Prim.Native.Nat.{ℕ}
 use mathlib.Core.List.{List, []}
-use Rattle.model.specs.Records.{Tables, Policy}
+use Rattle.model.specs.Values.{Tables, Policy}
 use Rattle.model.specs.Layout.{policyOf}
 use Rattle.table.specs.Entries.{withoutRights}
 

@@ -13,7 +13,7 @@ ghost use Rattle.model.specs.Conditions.{meant};
 ghost use Rattle.model.specs.Sound.{conditionFits, ruleFits, kindFits, rightFits, soundPolicy};
 ghost use Rattle.table.specs.Entries.{entries, ruleAt, kindAt, withoutRights};
 ghost use Rattle.policy.specs.Lent.{lent, kindsOnly};
-ghost use Rattle.policy.specs.Counting.{Counting, Limits, keeps};
+ghost use Rattle.policy.specs.Counting.{Counting, RightLimits, keeps};
 use model::FACTS;
 use model::FIRST_KIND;
 use model::KIND_WIDTH;
@@ -192,7 +192,7 @@ fn kinds_fit(kinds: &[u16], counting: &[u16]) -> bool
 
 // The limits of sixteen rights, one after the other.
 fn limits() -> [u16; 32]
-    ensures { λ r. ⌜ Limits r ⌝ }
+    ensures { λ r. ⌜ RightLimits r ⌝ }
 {
     [
         ROLES,

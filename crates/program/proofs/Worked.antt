@@ -10,7 +10,7 @@ use Rattle.model.specs.Lists.{every, all, joined}
 use Rattle.model.specs.Layout.{policyOf, decode, encode}
 use Rattle.model.specs.Conditions.{meant, active, someStands, holds, satisfied, supported, rolesAsked, restsOn}
 use Rattle.model.specs.Left.{left}
-use Rattle.model.specs.Sound.{conditionFits, ruleClauses, kindClauses, rightClauses, policyClauses, rowClauses, certificateClauses, formClauses, soundRecords, sound}
+use Rattle.model.specs.Sound.{conditionFits, ruleClauses, kindClauses, rightClauses, policyClauses, rowClauses, certificateClauses, formClauses, soundValues, sound}
 use Rattle.model.specs.Effective.{direct, effectively}
 use Rattle.model.specs.Outcome.{judgedFirst, decided}
 use Rattle.model.specs.Calls.{settled, activateOn, appointOn, revokeOn, withdrawOn, environmentOn, logoutOn, allowed, invokeOn, effectiveOn, chainOn, freshOn, courseOf, answer}
@@ -195,7 +195,7 @@ table : List (List Case)
 table = session ∷ events ∷ records-cut ∷ quoting ∷ numbers ∷ words-and-counts ∷ policies ∷ limits ∷ []
 
 cases : all (all goesRight) table ≡ true
-unfolding table session events records-cut quoting numbers words-and-counts policies limits policyOf decode encode meant active someStands holds satisfied supported rolesAsked restsOn left conditionFits ruleClauses kindClauses rightClauses policyClauses rowClauses certificateClauses formClauses soundRecords sound direct effectively judgedFirst decided settled activateOn appointOn revokeOn withdrawOn environmentOn logoutOn allowed invokeOn effectiveOn chainOn freshOn courseOf answer isQuoted unquoted isNumber wordOf lineClauses lineFrom lineOf withRow lineCall badWays afterBad afterPolicy afterEvent step program
+unfolding table session events records-cut quoting numbers words-and-counts policies limits policyOf decode encode meant active someStands holds satisfied supported rolesAsked restsOn left conditionFits ruleClauses kindClauses rightClauses policyClauses rowClauses certificateClauses formClauses soundValues sound direct effectively judgedFirst decided settled activateOn appointOn revokeOn withdrawOn environmentOn logoutOn allowed invokeOn effectiveOn chainOn freshOn courseOf answer isQuoted unquoted isNumber wordOf lineClauses lineFrom lineOf withRow lineCall badWays afterBad afterPolicy afterEvent step program
 cases = refl
 
 -- a machine that has taken so many rows of zeros into its rules and its rights

@@ -6,7 +6,7 @@ use lib.Dec.{eqb, ltb, leb}
 use lib.ListN.{length, getD, take, drop}
 use Rattle.model.specs.Lists.{any}
 use Rattle.model.specs.Limits.{mostRules, ruleWidth, mostKinds, kindWidth, mostPrerequisites, mostRights, rightWidth}
-use Rattle.model.specs.Records.{Tables}
+use Rattle.model.specs.Values.{Tables}
 use Rattle.model.specs.Layout.{encode, number}
 use Rattle.model.specs.Outcome.{Outcome}
 use Rattle.model.specs.Calls.{Call, fresh, activate, appoint, revoke, withdraw, environment, logout, invoke, effective, nothing, answer}

@@ -11,7 +11,7 @@ use lib.ListN.{length, getD, take, drop, set, replicate, length-take, length-dro
 use lib.Seq.{take-suc-set, getD-take, getD-drop, ext-getD}
 use native.Mathlib.Numerals.{add-one}
 use Rattle.model.specs.Lists.{among, those, joined, filledTo}
-use Rattle.model.specs.Records.{Tables, Policy, World, worldOf}
+use Rattle.model.specs.Values.{Tables, Policy, World, worldOf}
 use Rattle.model.specs.Layout.{policyOf, decode, rowCount}
 use Rattle.model.specs.Conditions.{isRow, active, restsOn}
 use Rattle.model.specs.Chain.{written, someTwice}

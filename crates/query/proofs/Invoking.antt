@@ -13,7 +13,7 @@ use Rattle.model.specs.Calls.{invoke, isUser, isPrivilege, allowed, invokeOn, c
 use Rattle.model.specs.Words.{Sound, none, here, later}
 use Rattle.model.specs.declared.Answer.{Answer}
 use Rattle.model.proofs.Numbers.{encode-decode, sound-formed}
-use Rattle.inner.specs.Lent.{lent, Answers}
+use Rattle.inner.specs.Promise.{lent, Answers}
 use Rattle.inner.proofs.Codes.{own-refuses, own-accepts, in-range}
 
 module _ (rules kinds rights s : List ℕ) (h : Sound (lent rules kinds rights) s) (u x : ℕ) where

@@ -22,7 +22,7 @@ use Rattle.model.proofs.Tests.{of-true, of-false}
 use Rattle.model.proofs.Numbers.{encode-decode, sound-formed}
 use Rattle.table.specs.Entries.{rowAt, firstRows, withoutRights}
 use Rattle.fall.specs.Writes.{Zeroed}
-use Rattle.inner.specs.Lent.{lent, AnswersWith}
+use Rattle.inner.specs.Promise.{lent, AnswersWith}
 use Rattle.inner.proofs.Codes.{own-refuses, own-accepts, in-range, found, active-now}
 use Rattle.rests.specs.Newest.{newest}
 use Rattle.rests.proofs.Newest.{newest-active}

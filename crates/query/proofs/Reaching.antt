@@ -9,7 +9,7 @@ use lib.Dec.{T, eqb, T-not, not-T}
 use borrow.Author.Tests.{eq-eqb, eqb-true}
 use lib.ListN.{length, getD, set, replicate, length-set, length-replicate}
 use Rattle.model.specs.Lists.{any, joined}
-use Rattle.model.specs.Records.{Tables}
+use Rattle.model.specs.Values.{Tables}
 use Rattle.model.specs.Layout.{policyOf, rowCount}
 use Rattle.model.specs.Conditions.{meant, isRow, membership, ruleNumbered, rolesAsked, restsOn}
 use Rattle.model.specs.declared.Row.{Row}

@@ -7,7 +7,7 @@ use mathlib.Core.List.{List, [], _∷_}
 use native.Mathlib.Omega.{arith}
 use lib.Dec.{T, ltb→lt, T-not}
 use Rattle.model.specs.Lists.{allOverEarlier}
-use Rattle.model.specs.Records.{Tables, World, worldOf}
+use Rattle.model.specs.Values.{Tables, World, worldOf}
 use Rattle.model.specs.Layout.{policyOf, decode, rowCount}
 use Rattle.model.specs.Conditions.{isRow, active}
 use Rattle.model.specs.Sound.{rowSound}

@@ -17,7 +17,7 @@ use Rattle.model.specs.declared.Row.{Row}
 use Rattle.model.proofs.Tests.{of-false}
 use Rattle.model.proofs.Numbers.{encode-decode, sound-formed}
 use Rattle.table.specs.Entries.{firstRows, withoutRights}
-use Rattle.inner.specs.Lent.{lent, Answers}
+use Rattle.inner.specs.Promise.{lent, Answers}
 use Rattle.inner.proofs.Codes.{own-refuses, own-accepts, in-range, found, active-now}
 use Rattle.rests.proofs.Stepping.{rests-same}
 use Rattle.direct.specs.Having.{hasRight, Having}

@@ -7,7 +7,7 @@ use mathlib.Core.List.{List, [], _∷_, reverse}
 use lib.ListN.{getD}
 use Rattle.model.specs.Lists.{any}
 use Rattle.model.specs.Limits.{roles}
-use Rattle.model.specs.Records.{Tables}
+use Rattle.model.specs.Values.{Tables}
 use Rattle.model.specs.Layout.{policyOf, rowCount}
 use Rattle.model.specs.Conditions.{isRow, restsOn}
 use Rattle.model.specs.declared.Row.{Row}

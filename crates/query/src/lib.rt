@@ -9,14 +9,14 @@ ghost use Rattle.model.specs.Layout.{rowCount};
 ghost use Rattle.model.specs.Calls.{invoke as invokeCall, effective as effectiveCall, chain as chainCall};
 ghost use Rattle.model.specs.Words.{Sound};
 ghost use Rattle.table.specs.Entries.{withoutRights};
-ghost use Rattle.inner.specs.Lent.{lent, Answers, AnswersWith};
+ghost use Rattle.inner.specs.Promise.{lent, Answers, AnswersWith};
 ghost use Rattle.rests.specs.Asked.{AskedThrough};
 ghost use Rattle.query.specs.Reached.{restReaches, Ready, Tells};
 use model::Answer;
 use model::FIRST_FACT;
 use model::PRIVILEGES;
 use model::ROLES;
-use model::ROW_COUNT;
+use model::ROW_COUNT_AT;
 use model::Row;
 use model::USERS;
 
@@ -140,7 +140,7 @@ pub fn effective(
     if PRIVILEGES <= privilege {
         return inner::refused(3);
     }
-    let n = table::wide(state[ROW_COUNT]);
+    let n = table::wide(state[ROW_COUNT_AT]);
     if !table::is_active(state, n, user, role) {
         return inner::refused(12);
     }
@@ -172,7 +172,7 @@ pub fn chain(
     if list.len() != LIST_SIZE {
         return inner::refused(3);
     }
-    let mut k = table::wide(state[ROW_COUNT]);
+    let mut k = table::wide(state[ROW_COUNT_AT]);
     if !table::is_active(state, k, user, role) {
         return inner::refused(12);
     }

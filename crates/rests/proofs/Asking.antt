@@ -4,7 +4,7 @@ use mathlib.Core.Path.{_≡_, refl, sym, ap, _∙_}
 use mathlib.Core.Logic.{_⊎_, inl, inr}
 use mathlib.Core.List.{List, [], _∷_}
 use lib.ListN.{length, getD, take}
-use Rattle.model.specs.Records.{Policy}
+use Rattle.model.specs.Values.{Policy}
 use Rattle.model.specs.Layout.{policyOf}
 use Rattle.model.specs.Conditions.{Condition, role, kind, fact, malformed, meant, membership, ruleNumbered, prerequisiteRoles, kindNumbered, noKind, rolesAsked}
 use Rattle.model.specs.declared.Row.{Row}

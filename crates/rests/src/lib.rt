@@ -16,18 +16,18 @@ use model::ROLES;
 use model::Row;
 
 // The roles that a condition asks for: the first `count` of four.
-pub struct Asked {
+pub struct RolesAsked {
     pub count: usize,
     pub roles: [u16; 4],
 }
 
 // A role asks for itself, a kind for its prerequisite roles, a fact for none.
-pub fn roles_asked(kinds: &[u16], condition: u16) -> Asked
+pub fn roles_asked(kinds: &[u16], condition: u16) -> RolesAsked
     ensures few { λ r. ⌜ r .count ≤ 4 ⌝ }
     ensures asked { λ r. ⌜ take (r .count) (r .roles) ≡ rolesAsked (policyOf (withoutRights [] (now (kinds .entry)))) (meant condition) ⌝ }
 {
     if condition < FIRST_KIND {
-        return Asked {
+        return RolesAsked {
             count: 1,
             roles: [condition, 0, 0, 0],
         };
@@ -36,9 +36,9 @@ pub fn roles_asked(kinds: &[u16], condition: u16) -> Asked
         let row = table::kind_numbered(kinds, table::wide(condition - FIRST_KIND));
         let roles = row.prerequisites;
         let count = table::least(table::wide(row.s), 4);
-        return Asked { count, roles };
+        return RolesAsked { count, roles };
     }
-    Asked {
+    RolesAsked {
         count: 0,
         roles: [0, 0, 0, 0],
     }

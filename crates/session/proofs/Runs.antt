@@ -8,7 +8,7 @@ use native.Mathlib.Numerals.{add-one}
 use lib.Dec.{T, ltb→lt}
 use lib.ListN.{length, take, drop, length-take, length-drop}
 use Rattle.model.specs.Lists.{every, filledTo}
-use Rattle.model.specs.Records.{Tables}
+use Rattle.model.specs.Values.{Tables}
 use Rattle.model.specs.Layout.{policyOf}
 use Rattle.model.specs.Sound.{soundPolicy, sound}
 use Rattle.model.specs.declared.Answer.{Answer}
@@ -25,9 +25,9 @@ use Rattle.reader.proofs.Walking.{lines-from, none-from, next-within}
 use Rattle.writer.specs.Writing.{Wrote}
 use Rattle.writer.proofs.Sizes.{answer-short, bad-short}
 use Rattle.writer.proofs.Records.{event-length}
-use Rattle.inner.specs.Lent.{Answers}
-use Rattle.load.specs.Rows.{running, linesFrom}
-use Rattle.load.proofs.Machines.{bad-is, event-not-bad, policy-after-event, unknown-bad, bad-written, event-taken, some}
+use Rattle.inner.specs.Promise.{Answers}
+use Rattle.load.specs.Loading.{running, linesFrom}
+use Rattle.load.proofs.Machines.{bad-is, event-not-bad, policy-after-event, unknown-bad, bad-written, event-taken, badBy}
 use Rattle.event.specs.SoundIf.{SoundIf}
 use Rattle.session.specs.Output.{Holds}
 
@@ -107,7 +107,7 @@ module _ (t : Tables) (text : List ℕ) (from taken : ℕ) (s₀ : List ℕ) (so
       eleven : 11 ≤ line .word → line .word ≡ 11
       eleven a = let k : line .word ≤ 11 = subst⁻¹ (λ (l : Line). l .word ≤ 11) e (line-known text at) in omega (arith, a, k)
 
-      done : Wrote out out′ w (badRecord (n + 1)) w′ → some (line .word) (isFull 512 11 (t .rules)) (isFull 128 7 (t .kinds)) (isFull 2048 2 (t .rights)) true ≡ true → Holds out′ w′ (steps (running t s₀ taken []) (linesFrom text from) .written)
+      done : Wrote out out′ w (badRecord (n + 1)) w′ → badBy (line .word) (isFull 512 11 (t .rules)) (isFull 128 7 (t .kinds)) (isFull 2048 2 (t .rights)) true ≡ true → Holds out′ w′ (steps (running t s₀ taken []) (linesFrom text from) .written)
       done o b =
           record {
             within = omega (arith, o .place, o .size, g .room, g .fits, g .in-text, bad-short (n + 1) (omega (arith, g .few, g .in-text)));

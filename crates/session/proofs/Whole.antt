@@ -9,7 +9,7 @@ use borrow.Author.Tests.{lt-ltb, le-ltb}
 use Rattle.program.specs.Program.{badRecord, start, steps, program}
 use Rattle.writer.specs.Writing.{Wrote}
 use Rattle.writer.proofs.Sizes.{bad-short}
-use Rattle.load.specs.Rows.{tablesOf, running, linesFrom, countsOf, Loads}
+use Rattle.load.specs.Loading.{tablesOf, running, linesFrom, countsOf, Loads}
 use Rattle.load.specs.declared.Loaded.{Loaded}
 use Rattle.session.specs.Output.{Holds}
 

@@ -10,7 +10,7 @@ use lib.ListN.{length, getD, take}
 use lib.Seq.{take-suc}
 use Rattle.model.specs.Lists.{all, allOverEarlier}
 use Rattle.model.specs.Limits.{users, roles}
-use Rattle.model.specs.Records.{World}
+use Rattle.model.specs.Values.{World}
 use Rattle.model.specs.Layout.{decode, policyOf, rowCount}
 use Rattle.model.specs.Conditions.{ruleNumbered, active, supported}
 use Rattle.model.specs.Sound.{rowClauses, rowSound}

@@ -7,9 +7,9 @@ use native.Mathlib.Omega.{arith}
 use lib.Dec.{T, ltb→lt}
 use lib.ListN.{length}
 use Rattle.model.specs.Lists.{all, allOverEarlier}
-use Rattle.model.specs.Records.{Policy, worldOf}
+use Rattle.model.specs.Values.{Policy, worldOf}
 use Rattle.model.specs.Layout.{decode, policyOf, kindFrom}
-use Rattle.model.specs.Sound.{rowSound, certificateClauses, certificateSound, wellFormed, soundRecords, sound}
+use Rattle.model.specs.Sound.{rowSound, certificateClauses, certificateSound, wellFormed, soundValues, sound}
 use Rattle.model.specs.declared.Row.{Row}
 use Rattle.model.proofs.Tests.{is-true, of-true, and-left, and-right, each, all-of, earlier-of}
 use Rattle.table.specs.Entries.{Sized}
@@ -42,11 +42,11 @@ few-kinds kinds h = omega (arith, h, length-entries kindFrom 7 kinds (length kin
 
 -- a sound state keeps the ranges
 pub sound-in-range : (p : Policy) (s : List ℕ) → length (p .kinds) ≤ 128 → sound p s ≡ true → InRange s
-unfolding sound soundRecords
+unfolding sound soundValues
 sound-in-range p s few e =
     let t = of-true (sound p s) e in
-    let f : T (wellFormed s) = and-left (wellFormed s) (soundRecords p (decode s)) t in
-    let r : T (soundRecords p (decode s)) = and-right (wellFormed s) (soundRecords p (decode s)) t in
+    let f : T (wellFormed s) = and-left (wellFormed s) (soundValues p (decode s)) t in
+    let r : T (soundValues p (decode s)) = and-right (wellFormed s) (soundValues p (decode s)) t in
     let a = and-left (allOverEarlier (certificateSound p) [] (decode s .certificates)) (allOverEarlier (rowSound (worldOf p (decode s))) [] (decode s .rows)) r in
     let b = and-right (allOverEarlier (certificateSound p) [] (decode s .certificates)) (allOverEarlier (rowSound (worldOf p (decode s))) [] (decode s .rows)) r in
     let n = and-left (all (rowNamed p) (decode s .rows)) (allOverEarlier (stays (worldOf p (decode s))) [] (decode s .rows)) (subst T (rows-parts (worldOf p (decode s)) (decode s .rows)) b) in

@@ -7,10 +7,10 @@ use lib.Dec.{eqb, ltb}
 use lib.ListN.{length, getD}
 use Rattle.model.specs.Lists.{every, any, allOverEarlier}
 use Rattle.model.specs.Limits.{users, roles}
-use Rattle.model.specs.Records.{Tables, Policy, State, worldOf}
+use Rattle.model.specs.Values.{Tables, Policy, State, worldOf}
 use Rattle.model.specs.Layout.{policyOf, decode}
 use Rattle.model.specs.Conditions.{noRule, active}
-use Rattle.model.specs.Sound.{sameCertificate, certificateClauses, certificateSound, rowClauses, rowSound, wellFormed, soundRecords, sound}
+use Rattle.model.specs.Sound.{sameCertificate, certificateClauses, certificateSound, rowClauses, rowSound, wellFormed, soundValues, sound}
 use Rattle.model.specs.declared.Row.{Row}
 use Rattle.model.specs.declared.Certificate.{Certificate}
 use Rattle.table.specs.Entries.{withoutRights}
@@ -41,7 +41,7 @@ module _ (p₁ p₂ : Policy) (kinds : p₁ .kinds ≡ p₂ .kinds) where
     rows-same rows = λ i. allOverEarlier (λ (earlier : List Row) (r : Row). every (row-clauses-same earlier r i)) [] rows
 
 pub sound-without-rights : (t : Tables) (s : List ℕ) → sound (policyOf (withoutRights (t .rules) (t .kinds))) s ≡ sound (policyOf t) s
-unfolding sound soundRecords policyOf
+unfolding sound soundValues policyOf
 sound-without-rights t s =
     λ i.
     wellFormed s

@@ -6,7 +6,7 @@ use lib.Dec.{eqb, ltb}
 use lib.ListN.{length}
 use Rattle.model.specs.Lists.{every}
 use Rattle.model.specs.Limits.{users, roles}
-use Rattle.model.specs.Records.{Policy}
+use Rattle.model.specs.Values.{Policy}
 use Rattle.model.specs.Layout.{policyOf}
 use Rattle.model.specs.Conditions.{ruleNumbered}
 use Rattle.model.specs.declared.Row.{Row}

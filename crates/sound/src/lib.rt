@@ -13,18 +13,18 @@ ghost use Rattle.index.specs.Owned.{CertificatesInRange};
 ghost use Rattle.policy.specs.Lent.{kindsOnly};
 ghost use Rattle.sound.specs.Traces.{trace, Traced};
 ghost use Rattle.sound.specs.Named.{rowNamed, rulesOnly, isOne};
-use model::CERTIFICATE_COUNT;
+use model::CERTIFICATE_COUNT_AT;
 use model::CERTIFICATE_WIDTH;
-use model::CERTIFICATES;
+use model::CERTIFICATES_AT;
 use model::Certificate;
 use model::FACTS_END;
 use model::KIND_WIDTH;
 use model::MOST_CERTIFICATES;
 use model::MOST_ROWS;
 use model::ROLES;
-use model::ROW_COUNT;
+use model::ROW_COUNT_AT;
 use model::ROW_WIDTH;
-use model::ROWS;
+use model::ROWS_AT;
 use model::RULE_WIDTH;
 use model::Row;
 use model::STATE_SIZE;
@@ -58,20 +58,20 @@ fn well_formed(state: &[u16]) -> bool
     if !facts_are_bits(state) {
         return false;
     }
-    let rows = state[ROW_COUNT] as usize;
+    let rows = state[ROW_COUNT_AT] as usize;
     if rows > MOST_ROWS {
         return false;
     }
-    let certificates = state[CERTIFICATE_COUNT] as usize;
+    let certificates = state[CERTIFICATE_COUNT_AT] as usize;
     if certificates > MOST_CERTIFICATES {
         return false;
     }
     let used = rows * ROW_WIDTH;
-    if !policy::all_zero(state, ROWS + used, 768 - used) {
+    if !policy::all_zero(state, ROWS_AT + used, 768 - used) {
         return false;
     }
     let standing = certificates * CERTIFICATE_WIDTH;
-    if !policy::all_zero(state, CERTIFICATES + standing, 768 - standing) {
+    if !policy::all_zero(state, CERTIFICATES_AT + standing, 768 - standing) {
         return false;
     }
     true
@@ -157,7 +157,7 @@ fn each_certificate_sound(kinds: &[u16], state: &[u16], traces: &mut [u16]) -> b
     requires { ⌜ Sized (now state) × Traced (now traces) [] ⌝ }
     ensures { λ r. ⌜ r ≡ allOverEarlier (certificateSound (kindsOnly (now (kinds .entry)))) [] (decode (now (state .entry)) .certificates) ⌝ }
 {
-    let n = table::wide(state[CERTIFICATE_COUNT]);
+    let n = table::wide(state[CERTIFICATE_COUNT_AT]);
     let mut i: usize = 0;
     while i < n {
         if !certificate_sound(kinds, state, traces, i) {
@@ -198,7 +198,7 @@ fn rows_named(rules: &[u16], state: &[u16]) -> bool
     requires { ⌜ Sized (now state) ⌝ }
     ensures { λ r. ⌜ r ≡ all (rowNamed (rulesOnly (now (rules .entry)))) (decode (now (state .entry)) .rows) ⌝ }
 {
-    let n = table::wide(state[ROW_COUNT]);
+    let n = table::wide(state[ROW_COUNT_AT]);
     let mut i: usize = 0;
     while i < n {
         if !row_named(rules, table::row_at(state, i)) {
@@ -235,7 +235,7 @@ fn rows_sound(rules: &[u16], kinds: &[u16], state: &[u16]) -> bool
     }
     let mut verdicts = [0u8; 256];
     support::judge_rows(rules, kinds, state, &mut verdicts);
-    each_stays(&verdicts, table::wide(state[ROW_COUNT]))
+    each_stays(&verdicts, table::wide(state[ROW_COUNT_AT]))
 }
 
 // The state is well formed, and its certificates and active rows are sound, each over those before it.

@@ -7,7 +7,7 @@ use mathlib.Core.List.{List, [], _∷_, _++_}
 use native.Mathlib.Omega.{arith}
 use native.Mathlib.Numerals.{add-one}
 use lib.ListN.{getD, set, replicate}
-use Rattle.model.specs.Records.{World}
+use Rattle.model.specs.Values.{World}
 use Rattle.model.specs.Layout.{decode, rowCount, certificateCount, certificatesAt}
 use Rattle.model.specs.Conditions.{active, supported}
 use Rattle.model.specs.Left.{keep, left}

@@ -8,7 +8,7 @@ use mathlib.Core.List.{List, [], _∷_, _++_}
 use native.Mathlib.Omega.{arith}
 use lib.ListN.{length, getD, set, replicate, length-set, length-replicate}
 use lib.Seq.{getD-set-same, getD-set-other}
-use Rattle.model.specs.Records.{World}
+use Rattle.model.specs.Values.{World}
 use Rattle.model.specs.Layout.{decode, rowCount, rowsAt}
 use Rattle.model.specs.Conditions.{active, supported}
 use Rattle.model.specs.Left.{left}

@@ -5,7 +5,7 @@ use mathlib.Core.Logic.{_≢_}
 use mathlib.Core.Bool.{cond}
 use mathlib.Core.List.{List}
 use lib.ListN.{length, getD}
-use Rattle.model.specs.Records.{World}
+use Rattle.model.specs.Values.{World}
 use Rattle.model.specs.Layout.{rowCount}
 use Rattle.model.specs.Conditions.{active, supported}
 use Rattle.model.specs.Left.{left}

@@ -11,10 +11,10 @@ ghost use Rattle.table.specs.Entries.{rowAt, worldAt};
 ghost use Rattle.index.specs.Owned.{InRange, Own};
 ghost use Rattle.chains.specs.Chained.{Begins, GoesOn};
 ghost use Rattle.support.specs.Verdicts.{kept, verdictAt, Right, UserJudged, Judged};
-use model::CERTIFICATE_COUNT;
-use model::CERTIFICATES;
-use model::ROW_COUNT;
-use model::ROWS;
+use model::CERTIFICATE_COUNT_AT;
+use model::CERTIFICATES_AT;
+use model::ROW_COUNT_AT;
+use model::ROWS_AT;
 
 // What is said of a row: 0 where it is not judged yet.
 pub const STAYS: u8 = 1;
@@ -29,7 +29,7 @@ fn enter_kinds(state: &[u16], heads: &[u16], next: &[u16], user: u16, own: &mut 
     requires { ⌜ InRange (now state) × Begins (now state) certificatesAt (certificateCount (now state)) 0 (now heads) × GoesOn (now state) certificatesAt (certificateCount (now state)) 0 (now next) × (now own ≡ replicate 384 false) ⌝ }
     ensures { λ r. ⌜ Own user (now (own .exit)) [] (decode (now (state .entry)) .certificates) ⌝ }
 {
-    let n = table::wide(state[CERTIFICATE_COUNT]);
+    let n = table::wide(state[CERTIFICATE_COUNT_AT]);
     let mut k = table::wide(heads[chains::bucket_of(user)]);
     while k < n {
         let certificate = table::certificate_at(state, k);
@@ -71,7 +71,7 @@ fn judge_user(
     requires { ⌜ InRange (now state) × (i < rowCount (now state)) × GoesOn (now state) rowsAt (rowCount (now state)) 0 (now next) × Own (rowAt (now state) i .user) (now own) (kept (worldAt (now rules) (now kinds) (now state)) (now state) i) (decode (now state) .certificates) × Right (worldAt (now rules) (now kinds) (now state)) (now state) (now verdicts) ⌝ }
     ensures { λ r. ⌜ UserJudged (worldAt (now (rules .entry)) (now (kinds .entry)) (now (state .entry))) (now (state .entry)) i (now (verdicts .entry)) (now (verdicts .exit)) ⌝ }
 {
-    let n = table::wide(state[ROW_COUNT]);
+    let n = table::wide(state[ROW_COUNT_AT]);
     let first = table::row_at(state, i);
     let user = first.user;
     let mut k = i;
@@ -116,7 +116,7 @@ fn judge_each(
     requires { ⌜ InRange (now state) × GoesOn (now state) rowsAt (rowCount (now state)) 0 (now next) × Begins (now state) certificatesAt (certificateCount (now state)) 0 (now heads) × GoesOn (now state) certificatesAt (certificateCount (now state)) 0 (now after) × (now verdicts ≡ replicate 256 0) ⌝ }
     ensures { λ r. ⌜ Judged (worldAt (now (rules .entry)) (now (kinds .entry)) (now (state .entry))) (now (state .entry)) (now (verdicts .exit)) ⌝ }
 {
-    let n = table::wide(state[ROW_COUNT]);
+    let n = table::wide(state[ROW_COUNT_AT]);
     let mut i: usize = 0;
     while i < n {
         if verdicts[i] == 0 {
@@ -133,11 +133,11 @@ pub fn judge_rows(rules: &[u16], kinds: &[u16], state: &[u16], verdicts: &mut [u
 {
     let mut first = [256u16; 512];
     let mut next = [256u16; 256];
-    let n = table::wide(state[ROW_COUNT]);
-    chains::chain(state, ROWS, n, &mut first, &mut next);
+    let n = table::wide(state[ROW_COUNT_AT]);
+    chains::chain(state, ROWS_AT, n, &mut first, &mut next);
     let mut heads = [256u16; 512];
     let mut after = [256u16; 256];
-    let m = table::wide(state[CERTIFICATE_COUNT]);
-    chains::chain(state, CERTIFICATES, m, &mut heads, &mut after);
+    let m = table::wide(state[CERTIFICATE_COUNT_AT]);
+    chains::chain(state, CERTIFICATES_AT, m, &mut heads, &mut after);
     judge_each(rules, kinds, state, &next, &heads, &after, verdicts);
 }

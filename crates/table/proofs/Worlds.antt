@@ -6,7 +6,7 @@ use mathlib.Core.List.{List}
 use lib.ListN.{getD}
 use lib.Dec.{eqb}
 use Rattle.model.specs.Lists.{all}
-use Rattle.model.specs.Records.{Policy, State, worldOf}
+use Rattle.model.specs.Values.{Policy, State, worldOf}
 use Rattle.model.specs.Conditions.{Condition, role, kind, fact, malformed, meant, prerequisiteRoles, noKind, noRule, membership, activating, active, supported, satisfied, someStands, holds}
 use Rattle.model.specs.declared.Row.{Row}
 use Rattle.model.specs.declared.Kind.{Kind}

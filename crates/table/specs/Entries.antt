@@ -6,7 +6,7 @@ use mathlib.Core.List.{List, [], map}
 use lib.ListN.{length, take, drop}
 use Rattle.model.specs.Lists.{rowsOf}
 use Rattle.model.specs.Limits.{ruleWidth, kindWidth, rightWidth, rowWidth, certificateWidth, mostRows, mostCertificates, stateSize}
-use Rattle.model.specs.Records.{Tables, World, worldOf}
+use Rattle.model.specs.Values.{Tables, World, worldOf}
 use Rattle.model.specs.Layout.{ruleFrom, kindFrom, rightFrom, rowFrom, certificateFrom, rowNumbers, certificateNumbers, rowCount, certificateCount, policyOf, decode}
 use Rattle.model.specs.declared.Rule.{Rule}
 use Rattle.model.specs.declared.Kind.{Kind}

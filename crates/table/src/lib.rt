@@ -8,13 +8,13 @@ ghost use Rattle.model.specs.Layout.{policyOf};
 ghost use Rattle.model.specs.Conditions.{isRow, active, kindNumbered, ruleNumbered};
 ghost use Rattle.table.specs.Entries.{ruleAt, kindAt, rightAt, rowAt, firstRows, certificateAt, withoutRights};
 use model::CERTIFICATE_WIDTH;
-use model::CERTIFICATES;
+use model::CERTIFICATES_AT;
 use model::Certificate;
 use model::KIND_WIDTH;
 use model::Kind;
 use model::RIGHT_WIDTH;
 use model::ROW_WIDTH;
-use model::ROWS;
+use model::ROWS_AT;
 use model::RULE_WIDTH;
 use model::Right;
 use model::Row;
@@ -87,7 +87,7 @@ pub fn row_at(state: &[u16], i: usize) -> Row
     requires { ⌜ (length (now state) ≡ stateSize) × (i < mostRows) ⌝ }
     ensures { λ r. ⌜ r ≡ rowAt (now (state .entry)) i ⌝ }
 {
-    let b = i * ROW_WIDTH + ROWS;
+    let b = i * ROW_WIDTH + ROWS_AT;
     Row {
         user: state[b],
         role: state[b + 1],
@@ -100,7 +100,7 @@ pub fn certificate_at(state: &[u16], i: usize) -> Certificate
     requires { ⌜ (length (now state) ≡ stateSize) × (i < mostCertificates) ⌝ }
     ensures { λ r. ⌜ r ≡ certificateAt (now (state .entry)) i ⌝ }
 {
-    let b = i * CERTIFICATE_WIDTH + CERTIFICATES;
+    let b = i * CERTIFICATE_WIDTH + CERTIFICATES_AT;
     Certificate {
         appointee: state[b],
         kind: state[b + 1],

@@ -11,7 +11,7 @@ use lib.Seq.{getD-take, getD-set-same, getD-set-other, length-take-le}
 use borrow.Author.Tests.{lt-ltb, le-ltb}
 use Rattle.model.specs.Lists.{any, every, allOverEarlier, without, firstPlace, isBit}
 use Rattle.model.specs.Limits.{facts, stateSize}
-use Rattle.model.specs.Records.{Policy, State, worldOf, withRows, withCertificates, withFact}
+use Rattle.model.specs.Values.{Policy, State, worldOf, withRows, withCertificates, withFact}
 use Rattle.model.specs.Layout.{policyOf, decode, encode, certificateCount}
 use Rattle.model.specs.Conditions.{kindNumbered, supported}
 use Rattle.model.specs.Left.{left}
@@ -33,8 +33,8 @@ use Rattle.table.specs.Entries.{worldAt, withoutRights}
 use Rattle.table.proofs.Entries.{sized}
 use Rattle.table.proofs.Worlds.{supported-same}
 use Rattle.index.specs.Owned.{InRange}
-use Rattle.fall.specs.Changes.{Left}
-use Rattle.inner.specs.Lent.{lent, Answers}
+use Rattle.fall.specs.Changes.{RowsLeft}
+use Rattle.inner.specs.Promise.{lent, Answers}
 use Rattle.inner.proofs.Codes.{own-decide, own-refuses, own-accepts, out-of-range, in-range, found, certificate-length, some-kind}
 use Rattle.taking.specs.Fallen.{allSupported, Fallen, fallenRows}
 use Rattle.taking.specs.Taken.{takenOn, Comes}
@@ -65,7 +65,7 @@ one-less-member (y ∷ xs) (suc j) x m = go (one-less-member xs j x) (List·Mem�
     go deeper (inl e) = List·Memᴰ·head e
     go deeper (inr h) = List·Memᴰ·tail (deeper h)
 
-pub fallen-after : (rules kinds s₁ s′ : List ℕ) (v : State) (lost : ℕ) → s₁ ≡ encode v → Fits v → Left s₁ s′ (left (supported (worldAt rules kinds s₁)) (decode s₁ .rows)) lost → Fallen rules kinds v s′ lost
+pub fallen-after : (rules kinds s₁ s′ : List ℕ) (v : State) (lost : ℕ) → s₁ ≡ encode v → Fits v → RowsLeft s₁ s′ (left (supported (worldAt rules kinds s₁)) (decode s₁ .rows)) lost → Fallen rules kinds v s′ lost
 fallen-after rules kinds s₁ s′ v lost e f l =
     let q : decode s₁ ≡ v = ap decode e ∙ decode-encode v f in
     record {
@@ -258,6 +258,6 @@ module _ (rules kinds rights s : List ℕ) (h : Sound (lent rules kinds rights) 
     unfolding courseOf logoutOn
     logout-out r z l = own-refuses (lent rules kinds rights) s [] h (logout u) _ refl r 3 (omega arith) z (here (out-of-range (isUser u ∷ []) 0 (le-ltb u 4096 l)))
 
-    pub logout-done : (r : Answer) (s′ : List ℕ) → u < 4096 → r .code ≡ 0 → Left s s′ (without (ofUser u) (decode s .rows)) (r .second) → Answers (lent rules kinds rights) s (logout u) r s′
+    pub logout-done : (r : Answer) (s′ : List ℕ) → u < 4096 → r .code ≡ 0 → RowsLeft s s′ (without (ofUser u) (decode s .rows)) (r .second) → Answers (lent rules kinds rights) s (logout u) r s′
     unfolding courseOf logoutOn
     logout-done r s′ a z e = own-accepts (lent rules kinds rights) s [] h (logout u) _ refl r s′ [] z (later (in-range (isUser u ∷ []) (lt→ltb u 4096 a, tt)) none) (omega (arith, e .count)) (e .state) refl

@@ -4,7 +4,7 @@ use mathlib.Core.Path.{_≡_}
 use mathlib.Core.Bool.{Bool}
 use mathlib.Core.List.{List, []}
 use Rattle.model.specs.Lists.{allOverEarlier}
-use Rattle.model.specs.Records.{State, worldOf, withRows}
+use Rattle.model.specs.Values.{State, worldOf, withRows}
 use Rattle.model.specs.Layout.{policyOf, encode}
 use lib.ListN.{length}
 use Rattle.model.specs.Conditions.{supported}

@@ -6,7 +6,7 @@ ghost use mathlib.Core.List.{[], _++_};
 ghost use Prim.Native.Nat.{suc, _<_, _≤_};
 ghost use lib.ListN.{take, drop};
 ghost use Rattle.model.specs.Limits.{facts};
-ghost use Rattle.model.specs.Records.{withCertificates, withFact};
+ghost use Rattle.model.specs.Values.{withCertificates, withFact};
 ghost use Rattle.model.specs.Layout.{decode, policyOf, certificateCount};
 ghost use Rattle.model.specs.Conditions.{kindNumbered};
 ghost use Rattle.model.specs.Sound.{wellFormed};
@@ -15,14 +15,14 @@ ghost use Rattle.model.specs.Outcome.{given};
 ghost use Rattle.model.specs.Words.{Sound};
 ghost use Rattle.table.specs.Entries.{withoutRights, Sized};
 ghost use Rattle.index.specs.Owned.{InRange};
-ghost use Rattle.inner.specs.Lent.{lent, Answers};
+ghost use Rattle.inner.specs.Promise.{lent, Answers};
 ghost use Rattle.taking.specs.Fallen.{allSupported, Fallen};
 ghost use Rattle.taking.specs.Taken.{takenOn, Comes};
 use model::Answer;
-use model::CERTIFICATE_COUNT;
+use model::CERTIFICATE_COUNT_AT;
 use model::Certificate;
 use model::KIND_WIDTH;
-use model::ROW_COUNT;
+use model::ROW_COUNT_AT;
 use model::USERS;
 
 const FACTS: u16 = 64;
@@ -47,7 +47,7 @@ fn may_revoke(kinds: &[u16], state: &[u16], caller: u16, kind: u16, appointer: u
         return caller == appointer;
     }
     if mode == 1 {
-        let k = table::wide(state[ROW_COUNT]);
+        let k = table::wide(state[ROW_COUNT_AT]);
         return table::is_active(state, k, caller, row.appointer);
     }
     false
@@ -76,7 +76,7 @@ fn take_away(
         return inner::refused(3);
     }
     let j = inner::find_certificate(state, certificate);
-    if table::wide(state[CERTIFICATE_COUNT]) <= j {
+    if table::wide(state[CERTIFICATE_COUNT_AT]) <= j {
         return inner::refused(9);
     }
     if !allowed {

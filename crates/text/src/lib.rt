@@ -107,7 +107,7 @@ fn is_digit(b: u8) -> bool
 }
 
 // The number that digits write, with leading zeros or without.
-fn written(field: &[u8]) -> Number
+fn value_written(field: &[u8]) -> Number
     ensures { λ r. ⌜ r ≡ writtenBehind 0 (now (field .entry)) ⌝ }
 {
     let mut value: u16 = 0;
@@ -134,12 +134,12 @@ pub fn number_of(field: &[u8]) -> Number
         return Number::Not;
     }
     if field.len() == 1 {
-        return written(field);
+        return value_written(field);
     }
     if field[0] == DIGIT_ZERO {
         return Number::Not;
     }
-    written(field)
+    value_written(field)
 }
 
 fn says(field: &[u8], word: &[u8]) -> bool

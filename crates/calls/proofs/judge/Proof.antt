@@ -1,6 +1,6 @@
 use mathlib.Core.Path.{sym, _∙_}
 use borrow.Author.Tests.{not-true, not-false}
-use Rattle.inner.specs.Lent.{lent}
+use Rattle.inner.specs.Promise.{lent}
 use Rattle.sound.proofs.Unread.{sound-without-rights}
 use Rattle.calls.proofs.Judged.{no-policy, no-state, all-sound, sound-kinds}
 use borrow.Author.Needs.{needs}

@@ -1,6 +1,6 @@
 use mathlib.Core.Path.{refl}
 use Rattle.model.specs.Calls.{courseOf}
-use Rattle.inner.specs.Lent.{lent}
+use Rattle.inner.specs.Promise.{lent}
 use mathlib.Core.List.{[]}
 use Rattle.calls.proofs.Judged.{unsound, judged-sound}
 use borrow.Author.Needs.{needs}

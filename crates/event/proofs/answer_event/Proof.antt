@@ -1,6 +1,6 @@
 use mathlib.Core.Path.{refl, sym, _∙_}
 use borrow.Author.Tests.{not-true, not-false}
-use Rattle.inner.specs.Lent.{lent}
+use Rattle.inner.specs.Promise.{lent}
 use Rattle.event.proofs.Events.{malformed-answers, keeps-sound, both-sound}
 use borrow.Author.Needs.{needs}
 use Rattle.event.proofs.answer_event.Statement.{statement}

@@ -1,5 +1,5 @@
 use Rattle.model.proofs.Tests.{the-last}
-use Rattle.inner.specs.Lent.{lent}
+use Rattle.inner.specs.Promise.{lent}
 use Rattle.event.proofs.Events.{answers-line}
 use borrow.Author.Needs.{needs}
 use Rattle.event.proofs.call.Statement.{statement}

@@ -4,7 +4,7 @@ use native.Mathlib.Omega.{arith}
 use borrow.Author.Tests.{le-ltb, not-true, not-false}
 use Rattle.model.specs.Layout.{policyOf}
 use Rattle.model.specs.Calls.{isUser, hasRow}
-use Rattle.inner.specs.Lent.{lent}
+use Rattle.inner.specs.Promise.{lent}
 use Rattle.inner.proofs.Codes.{sound-form, sound-sized, out-of-range, no-kind}
 use Rattle.inner.proofs.Appointing.{appoint-out, appoint-not-in-role, appoint-stands, appoint-full, appoint-done}
 use borrow.Author.Needs.{needs}

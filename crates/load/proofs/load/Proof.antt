@@ -5,7 +5,7 @@ use native.Mathlib.Omega.{arith}
 use lib.ListN.{length}
 use borrow.Author.Tests.{not-true, not-false}
 use Rattle.reader.proofs.Walking.{next-behind}
-use Rattle.load.specs.Rows.{hasRoom}
+use Rattle.load.specs.Loading.{hasRoom}
 use Rattle.load.proofs.Machines.{Going, going-starts, going-stops, going-ends, going-to, counted-two}
 use borrow.Author.Needs.{needs}
 use Rattle.load.proofs.load.Statement.{statement}

@@ -11,7 +11,7 @@ use borrow.Author.Tests.{le-ltb, ne-eqb, not-true, not-false}
 use Rattle.model.specs.Layout.{policyOf, decode, rowCount}
 use Rattle.model.specs.Chain.{written}
 use Rattle.model.specs.Calls.{isUser, isRole}
-use Rattle.inner.specs.Lent.{lent}
+use Rattle.inner.specs.Promise.{lent}
 use Rattle.inner.proofs.Codes.{sound-sized, out-of-range}
 use Rattle.rests.specs.Newest.{newest}
 use Rattle.rests.proofs.Newest.{newest-within}

@@ -3,7 +3,7 @@ use Prim.Native.Nat.{_-_}
 use mathlib.Core.Path.{_≡_, refl, _∙_}
 use native.Mathlib.Omega.{arith}
 use lib.ListN.{length}
-use Rattle.inner.specs.Lent.{lent}
+use Rattle.inner.specs.Promise.{lent}
 use Rattle.reader.proofs.Walking.{next-behind}
 use Rattle.session.proofs.Runs.{Runs, runs-start, runs-on, runs-bad, runs-end}
 use borrow.Author.Needs.{needs}

@@ -7,7 +7,7 @@ use lib.Dec.{eqb, ltb}
 use lib.ListN.{length}
 use borrow.Author.Tests.{lt-ltb, le-ltb}
 use Rattle.model.specs.Layout.{ruleFrom, policyOf}
-use Rattle.model.specs.Records.{Policy}
+use Rattle.model.specs.Values.{Policy}
 use Rattle.model.specs.Conditions.{ruleNumbered}
 use Rattle.model.specs.declared.Row.{Row}
 use Rattle.model.specs.declared.Rule.{Rule}

@@ -5,7 +5,7 @@ use mathlib.Core.List.{List, [], _∷_}
 use borrow.Author.Tests.{not-true, not-false}
 use Rattle.model.specs.Lists.{every, allOverEarlier}
 use Rattle.model.specs.Layout.{decode, policyOf}
-use Rattle.model.specs.Sound.{wellFormed, certificateSound, rowSound, soundRecords, sound}
+use Rattle.model.specs.Sound.{wellFormed, certificateSound, rowSound, soundValues, sound}
 use Rattle.table.specs.Entries.{withoutRights, worldAt}
 use Rattle.table.proofs.Entries.{sized}
 use Rattle.policy.specs.Lent.{kindsOnly}
@@ -21,7 +21,7 @@ module _ (rules kinds s : List ℕ) where
   clauses = wellFormed s ∷ allOverEarlier (certificateSound (kindsOnly kinds)) [] (decode s .certificates) ∷ allOverEarlier (rowSound (worldAt rules kinds s)) [] (decode s .rows) ∷ []
 
   whole : every clauses ≡ sound (policyOf (withoutRights rules kinds)) s
-  unfolding sound soundRecords policyOf
+  unfolding sound soundValues policyOf
   whole = λ i. wellFormed s && (certificates-same (kindsOnly kinds) (policyOf (withoutRights rules kinds)) refl (decode s .certificates) i && and-true (allOverEarlier (rowSound (worldAt rules kinds s)) [] (decode s .rows)) i)
 
 well-formed-requires : tie.Need-well-formed-requires

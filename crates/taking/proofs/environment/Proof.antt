@@ -5,7 +5,7 @@ use native.Mathlib.Omega.{arith}
 use lib.Dec.{ltb}
 use borrow.Author.Tests.{le-ltb, lt-leb}
 use Rattle.model.specs.Lists.{isBit}
-use Rattle.model.specs.Records.{withFact}
+use Rattle.model.specs.Values.{withFact}
 use Rattle.model.specs.Layout.{decode}
 use Rattle.inner.proofs.Codes.{sound-form, sound-range, out-of-range}
 use Rattle.taking.specs.Fallen.{Fallen}

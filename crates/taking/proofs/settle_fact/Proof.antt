@@ -1,5 +1,5 @@
 use native.Mathlib.Omega.{arith}
-use Rattle.model.specs.Records.{withFact}
+use Rattle.model.specs.Values.{withFact}
 use Rattle.model.specs.Layout.{decode}
 use Rattle.table.proofs.Entries.{sized}
 use Rattle.taking.proofs.Falls.{encoded-formed, encoded-in-range, fallen-after, fact-set-fits, none-falls}

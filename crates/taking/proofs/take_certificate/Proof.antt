@@ -1,7 +1,7 @@
 use Prim.Native.Nat.{suc}
 use mathlib.Core.List.{_++_}
 use lib.ListN.{take, drop}
-use Rattle.model.specs.Records.{withCertificates}
+use Rattle.model.specs.Values.{withCertificates}
 use Rattle.model.specs.Layout.{decode}
 use Rattle.model.proofs.Tests.{of-true}
 use Rattle.model.specs.Sound.{wellFormed}

@@ -7,8 +7,8 @@ use borrow.Author.Tests.{not-true, not-false}
 use Rattle.text.specs.Places.{writtenBehind}
 use Rattle.text.proofs.Digits.{digit-bounds, digits-more, digits-stop, digits-large, digits-end}
 use borrow.Author.Needs.{needs}
-use Rattle.text.proofs.written.Statement.{statement}
-use Rattle.text.proofs.written.Tie as tie
+use Rattle.text.proofs.value_written.Statement.{statement}
+use Rattle.text.proofs.value_written.Tie as tie
 
 abbrev Inv-loop : tie.InvT-loop
 Inv-loop field value₀ i₀ value i = (i ≤ length field) × (value ≤ 65535) × (writtenBehind value (drop i field) ≡ writtenBehind 0 field)
@@ -61,8 +61,8 @@ loop-again c = (search needs, search needs, digits-more _ _ _ (c .before .before
 returns-3 : tie.Need-returns-3 Inv-loop μ-loop
 returns-3 c = sym (digits-end _ _ _ (c .before .loop .inv .0) (c .loop-test .left) (c .before .loop .inv .1)) ∙ c .before .loop .inv .2
 
-pub written-spec : {M : Type 1} → statement M
-written-spec =
+pub value-written-spec : {M : Type 1} → statement M
+value-written-spec =
     tie.close
     (tie.spec
     Inv-loop

@@ -2,7 +2,7 @@
 use Prim.Native.Nat.{ℕ}
 use mathlib.Core.List.{List, []}
 pub use Rattle.policy.specs.Lent.{lent}
-use Rattle.model.specs.Records.{Tables}
+use Rattle.model.specs.Values.{Tables}
 use Rattle.model.specs.Outcome.{Keeps}
 use Rattle.model.specs.Calls.{Call, answer}
 use Rattle.model.specs.declared.Answer.{Answer}

@@ -6,7 +6,7 @@ use mathlib.Core.List.{List, [], map}
 use lib.Dec.{eqb, ltb}
 use lib.ListN.{length, take, drop, replicate}
 use Rattle.model.specs.Limits.{mostRules, ruleWidth, mostKinds, kindWidth, mostRights, rightWidth, stateSize}
-use Rattle.model.specs.Records.{Tables}
+use Rattle.model.specs.Values.{Tables}
 use Rattle.program.specs.Text.{records}
 use Rattle.program.specs.Vocabulary.{ruleWord, kindWord, rightWord}
 use Rattle.program.specs.Lines.{lineOf}
