@@ -71,7 +71,7 @@ impl Session {
     /// The texts take turns, first with the one program and then with the other; the calls without judging follow.
     pub fn pass(&mut self, programs: Programs) -> Result<(), String> {
         for side in [OURS, SECOND] {
-            let turn: f64 = self.inputs(side).map(|input| input.best(side)).sum();
+            let turn: f64 = self.inputs(side).map(|input| input.time(side)).sum();
             for _ in 0..RUNS.max((PASS[side] / turn) as usize) {
                 self.turn(programs, side)?;
             }
@@ -81,7 +81,7 @@ impl Session {
     }
 
     pub fn line(&self) -> Line {
-        let share = |side, input: &Input, less: &Input| (input.best(side) - less.best(side)) / self.times as f64;
+        let share = |side, input: &Input, less: &Input| (input.time(side) - less.time(side)) / self.times as f64;
         let [ours, second] = [OURS, SECOND].map(|side| share(side, &self.with, &self.without));
         let mut cells = vec![Cell::Time(ours)];
         match &self.event {

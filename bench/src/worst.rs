@@ -26,7 +26,7 @@ impl Busy {
     }
 
     pub fn line(&self) -> Line {
-        let [ours, second] = [OURS, SECOND].map(|side| self.input.best(side) / 1e3);
+        let [ours, second] = [OURS, SECOND].map(|side| self.input.time(side) / 1e3);
         let tables = format!("{} events, {} bytes", self.events, self.input.text.len());
         let cells = [Cell::Time(ours)].into_iter().chain(beside(ours, second)).collect();
         Line { what: self.what.into(), tables, cells }
