@@ -60,7 +60,7 @@ pub fn find_certificate(state: &[u16], certificate: Certificate) -> usize
     let n = table::wide(state[CERTIFICATE_COUNT_AT]);
     let mut i: usize = 0;
     while i < n {
-        if sound::same_certificate(certificate, table::certificate_at(state, i)) {
+        if table::same_certificate(certificate, table::certificate_at(state, i)) {
             return i;
         }
         i += 1;

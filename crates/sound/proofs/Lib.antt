@@ -1,5 +1,5 @@
 pub mod Parts
 pub mod Unread
-pub mod Traces
+pub mod Searching
 pub mod Judged
 pub mod Ranges

@@ -1,2 +1,2 @@
-pub mod Traces
+pub mod Seen
 pub mod Named

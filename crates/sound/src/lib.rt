@@ -1,7 +1,7 @@
 // Whether a lent state is sound. A lent state holds any numbers, so a count is bounded before rows are read.
 ghost use mathlib.Core.Path.{_≡_};
 ghost use Prim.Native.Nat.{_+_, _/_, _<_, _≤_};
-ghost use mathlib.Core.Bool.{true};
+ghost use mathlib.Core.Bool.{true, false};
 ghost use mathlib.Core.List.{[]};
 ghost use lib.ListN.{length, take};
 ghost use Rattle.model.specs.Lists.{all, any, allOverEarlier, isBit};
@@ -11,7 +11,7 @@ ghost use Rattle.model.specs.Sound.{wellFormed, sameCertificate, certificateSou
 ghost use Rattle.table.specs.Entries.{certificateAt, firstCertificates, withoutRights, worldAt, Sized};
 ghost use Rattle.index.specs.Owned.{CertificatesInRange};
 ghost use Rattle.policy.specs.Lent.{kindsOnly};
-ghost use Rattle.sound.specs.Traces.{trace, Traced};
+ghost use Rattle.sound.specs.Seen.{beginning, bits, Seen};
 ghost use Rattle.sound.specs.Named.{rowNamed, rulesOnly, isOne};
 use model::CERTIFICATE_COUNT_AT;
 use model::CERTIFICATE_WIDTH;
@@ -30,8 +30,7 @@ use model::Row;
 use model::STATE_SIZE;
 use model::USERS;
 
-// How many traces there are: the marks of 1,024 numbers.
-const TRACES: usize = 16384;
+const BEGINNINGS: usize = 1024;
 
 // "64 facts, each 0 or 1"
 fn facts_are_bits(state: &[u16]) -> bool
@@ -77,64 +76,56 @@ fn well_formed(state: &[u16]) -> bool
     true
 }
 
-// A certificate is its appointee, kind and appointer.
-pub fn same_certificate(a: Certificate, b: Certificate) -> bool
-    ensures { λ r. ⌜ r ≡ sameCertificate a b ⌝ }
-{
-    if a.appointee != b.appointee {
-        return false;
-    }
-    if a.kind != b.kind {
-        return false;
-    }
-    if a.appointer != b.appointer {
-        return false;
-    }
-    true
-}
-
-// The certificate is one of the first k.
-fn stands_earlier(state: &[u16], k: usize, certificate: Certificate) -> bool
-    requires { ⌜ (length (now state) ≡ stateSize) × (k ≤ mostCertificates) ⌝ }
-    ensures { λ r. ⌜ r ≡ any (sameCertificate certificate) (firstCertificates (now (state .entry)) k) ⌝ }
-{
-    let mut j: usize = 0;
-    while j < k {
-        if same_certificate(certificate, table::certificate_at(state, j)) {
-            return true;
-        }
-        j += 1;
-    }
-    false
-}
-
-// A place below 16,384 that equal certificates share.
-fn trace_of(certificate: Certificate) -> usize
-    ensures few { λ r. ⌜ r < 16384 ⌝ }
-    ensures own { λ r. ⌜ r ≡ trace certificate ⌝ }
+// Certificates that were seen are found again by search trees, one for each of 1,024 beginnings. `links` has the first certificate of each
+// tree, and then for each certificate the two that may come next, of which a bit of the one that is looked for picks one: another bit at
+// each step. Certificates in range are told apart by 31 bits, so a search has at most 32 steps, whatever the table. 256 says that there is
+// none.
+fn beginning_of(certificate: Certificate) -> usize
+    ensures few { λ r. ⌜ r < 1024 ⌝ }
+    ensures own { λ r. ⌜ r ≡ beginning certificate ⌝ }
 {
     let appointee = certificate.appointee as usize;
     let kind = certificate.kind as usize;
     let appointer = certificate.appointer as usize;
-    (appointee * 129 + (kind + appointer * 61)) % TRACES
+    (appointee * 129 + (kind + appointer * 61)) % BEGINNINGS
 }
 
-// The certificate is one of the first k, which have marked their traces: only where its own trace is marked are they looked through.
-fn stands_already(state: &[u16], traces: &[u16], k: usize, certificate: Certificate) -> bool
-    requires { ⌜ (length (now state) ≡ stateSize) × (k ≤ mostCertificates) × Traced (now traces) (firstCertificates (now state) k) ⌝ }
-    ensures { λ r. ⌜ r ≡ any (sameCertificate certificate) (firstCertificates (now (state .entry)) k) ⌝ }
+fn bits_of(certificate: Certificate) -> usize
+    ensures { λ r. ⌜ r ≡ bits certificate ⌝ }
 {
-    if marks::is_marked(traces, trace_of(certificate)) {
-        return stands_earlier(state, k, certificate);
+    let appointee = certificate.appointee as usize;
+    let kind = certificate.kind as usize;
+    let appointer = certificate.appointer as usize;
+    appointee + (appointer + kind * 4096) * 4096
+}
+
+// Certificate i is one of those before it; if not, its search finds it from now on.
+fn stands_already(state: &[u16], links: &mut [u16], i: usize) -> bool
+    requires { ⌜ (length (now state) ≡ stateSize) × (i < mostCertificates) × Seen (now state) i (now links) ⌝ }
+    ensures answer { λ r. ⌜ r ≡ any (sameCertificate (certificateAt (now (state .entry)) i)) (firstCertificates (now (state .entry)) i) ⌝ }
+    ensures entered { λ r. ⌜ (r ≡ false → Seen (now (state .entry)) (i + 1) (now (links .exit))) ⌝ }
+{
+    let certificate = table::certificate_at(state, i);
+    let mut bits = bits_of(certificate);
+    let mut at = beginning_of(certificate);
+    let mut k = table::wide(links[at]);
+    while k < i {
+        if table::same_certificate(certificate, table::certificate_at(state, k)) {
+            return true;
+        }
+        at = BEGINNINGS + (k * 2 + bits % 2);
+        bits = bits / 2;
+        k = table::wide(links[at]);
     }
+    links[at] = i as u16;
     false
 }
 
 // "ranges are kept, .. no certificate stands twice, each certificate's kind has a row"
-fn certificate_sound(kinds: &[u16], state: &[u16], traces: &mut [u16], i: usize) -> bool
-    requires { ⌜ (length (now state) ≡ stateSize) × (i < mostCertificates) × Traced (now traces) (firstCertificates (now state) i) ⌝ }
+fn certificate_sound(kinds: &[u16], state: &[u16], links: &mut [u16], i: usize) -> bool
+    requires { ⌜ (length (now state) ≡ stateSize) × (i < mostCertificates) × Seen (now state) i (now links) ⌝ }
     ensures answer { λ r. ⌜ r ≡ certificateSound (kindsOnly (now (kinds .entry))) (firstCertificates (now (state .entry)) i) (certificateAt (now (state .entry)) i) ⌝ }
-    ensures entered { λ r. ⌜ (r ≡ true → Traced (now (traces .exit)) (firstCertificates (now (state .entry)) (i + 1))) ⌝ }
+    ensures entered { λ r. ⌜ (r ≡ true → Seen (now (state .entry)) (i + 1) (now (links .exit))) ⌝ }
 {
     let certificate = table::certificate_at(state, i);
     if certificate.appointee >= USERS {
@@ -146,21 +137,20 @@ fn certificate_sound(kinds: &[u16], state: &[u16], traces: &mut [u16], i: usize)
     if certificate.appointer >= USERS {
         return false;
     }
-    if stands_already(state, traces, i, certificate) {
+    if stands_already(state, links, i) {
         return false;
     }
-    marks::mark(traces, trace_of(certificate));
     true
 }
 
-fn each_certificate_sound(kinds: &[u16], state: &[u16], traces: &mut [u16]) -> bool
-    requires { ⌜ Sized (now state) × Traced (now traces) [] ⌝ }
+fn each_certificate_sound(kinds: &[u16], state: &[u16], links: &mut [u16]) -> bool
+    requires { ⌜ Sized (now state) × Seen (now state) 0 (now links) ⌝ }
     ensures { λ r. ⌜ r ≡ allOverEarlier (certificateSound (kindsOnly (now (kinds .entry)))) [] (decode (now (state .entry)) .certificates) ⌝ }
 {
     let n = table::wide(state[CERTIFICATE_COUNT_AT]);
     let mut i: usize = 0;
     while i < n {
-        if !certificate_sound(kinds, state, traces, i) {
+        if !certificate_sound(kinds, state, links, i) {
             return false;
         }
         i += 1;
@@ -172,8 +162,11 @@ fn certificates_sound(kinds: &[u16], state: &[u16]) -> bool
     requires { ⌜ Sized (now state) ⌝ }
     ensures { λ r. ⌜ r ≡ allOverEarlier (certificateSound (kindsOnly (now (kinds .entry)))) [] (decode (now (state .entry)) .certificates) ⌝ }
 {
-    let mut traces = [0u16; 1024];
-    each_certificate_sound(kinds, state, &mut traces)
+    if state[CERTIFICATE_COUNT_AT] == 0 {
+        return true;
+    }
+    let mut links = [256u16; 1536];
+    each_certificate_sound(kinds, state, &mut links)
 }
 
 // "ranges are kept, .. each active row's rule exists and has that role as target"

@@ -6,6 +6,7 @@ ghost use lib.ListN.{length};
 ghost use Rattle.model.specs.Limits.{stateSize, mostRows, mostCertificates};
 ghost use Rattle.model.specs.Layout.{policyOf};
 ghost use Rattle.model.specs.Conditions.{isRow, active, kindNumbered, ruleNumbered};
+ghost use Rattle.model.specs.Sound.{sameCertificate};
 ghost use Rattle.table.specs.Entries.{ruleAt, kindAt, rightAt, rowAt, firstRows, certificateAt, withoutRights};
 use model::CERTIFICATE_WIDTH;
 use model::CERTIFICATES_AT;
@@ -148,6 +149,22 @@ pub fn row_is(row: Row, user: u16, role: u16) -> bool
         return row.role == role;
     }
     false
+}
+
+// A certificate is its appointee, kind and appointer.
+pub fn same_certificate(a: Certificate, b: Certificate) -> bool
+    ensures { λ r. ⌜ r ≡ sameCertificate a b ⌝ }
+{
+    if a.appointee != b.appointee {
+        return false;
+    }
+    if a.kind != b.kind {
+        return false;
+    }
+    if a.appointer != b.appointer {
+        return false;
+    }
+    true
 }
 
 // The user is active in the role, in one of the first k rows.

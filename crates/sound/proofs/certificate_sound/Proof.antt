@@ -5,12 +5,13 @@ use lib.Dec.{ltb}
 use lib.ListN.{length}
 use borrow.Author.Tests.{lt-ltb, le-ltb}
 use Rattle.model.specs.Layout.{kindFrom, policyOf}
-use Rattle.model.specs.Sound.{certificateClauses}
+use Rattle.model.specs.Lists.{any}
+use Rattle.model.specs.Sound.{sameCertificate, certificateClauses}
+use Rattle.model.specs.declared.Certificate.{Certificate}
 use Rattle.table.specs.Entries.{firstCertificates}
 use Rattle.table.proofs.Entries.{length-entries}
 use Rattle.policy.specs.Lent.{kindsOnly}
 use Rattle.policy.proofs.Clauses.{here, later, fails-at, passes-at}
-use Rattle.sound.proofs.Traces.{traced-on}
 use native.Mathlib.Omega.{arith}
 use borrow.Author.Needs.{needs}
 use Rattle.sound.proofs.certificate_sound.Statement.{statement}
@@ -46,16 +47,7 @@ same-length c = search needs
 
 returns-4 : tie.Need-returns-4
 unfolding certificateClauses
-returns-4 c = (
-  fails-at (certificateClauses (kindsOnly (c .before .before .before .before .before .before .before .before .before .before .before .before .before .args .kinds .now)) (firstCertificates (c .before .before .before .before .before .before .before .before .before .before .before .before .before .args .state .now) (c .before .before .before .before .before .before .before .before .before .before .before .before .before .args .i))) (c .before .before .before .before .before .before .before .before .before .certificate-at .ensures) (later (later (later (here (ap not (sym (c .before .stands-already .ensures) ∙ c .if4 .taken)))))),
-  λ q. absurd (false≢true q),
-)
-
-trace-of-requires : tie.Need-trace-of-requires
-trace-of-requires c κs = search needs
-
-mark-requires : tie.Need-mark-requires
-mark-requires c κs = omega (arith, c .before .before .before .before .before .before .before .before .before .before .before .before .before .before .before .pre .2 .size, c .trace-of .ensures .0)
+returns-4 c = (fails-at (certificateClauses (kindsOnly (c .before .before .before .before .before .before .before .before .before .before .before .before .before .before .before .args .kinds .now)) (firstCertificates (c .before .before .before .before .before .before .before .before .before .before .before .before .before .before .before .args .state .now) (c .before .before .before .before .before .before .before .before .before .before .before .before .before .before .before .args .i))) (c .before .before .before .before .before .before .before .before .before .before .before .certificate-at .ensures) (later (later (later (here (ap not (ap (λ (x : Certificate). any (sameCertificate x) (firstCertificates (c .before .before .before .before .before .before .before .before .before .before .before .before .before .before .before .args .state .now) (c .before .before .before .before .before .before .before .before .before .before .before .before .before .before .before .args .i))) (c .before .before .before .before .before .before .before .before .before .before .before .certificate-at .ensures) ∙ sym (c .before .before .before .stands-already .ensures .0) ∙ c .if4 .taken)))))), λ q. absurd (false≢true q))
 
 same-length-2 : tie.Need-same-length-2
 same-length-2 c = search needs
@@ -63,14 +55,14 @@ same-length-2 c = search needs
 returns-5 : tie.Need-returns-5
 unfolding certificateClauses policyOf
 returns-5 c = (
-  passes-at (certificateClauses (kindsOnly (c .before .before .before .before .before .before .before .before .before .before .before .before .before .before .before .before .before .before .args .kinds .now)) (firstCertificates (c .before .before .before .before .before .before .before .before .before .before .before .before .before .before .before .before .before .before .args .state .now) (c .before .before .before .before .before .before .before .before .before .before .before .before .before .before .before .before .before .before .args .i))) (c .before .before .before .before .before .before .before .before .before .before .before .before .before .before .certificate-at .ensures) (
-    lt-ltb _ _ (c .before .before .before .before .before .before .before .before .before .before .before .before .if1 .left),
+  passes-at (certificateClauses (kindsOnly (c .before .before .before .before .before .before .before .before .before .before .before .before .before .before .before .args .kinds .now)) (firstCertificates (c .before .before .before .before .before .before .before .before .before .before .before .before .before .before .before .args .state .now) (c .before .before .before .before .before .before .before .before .before .before .before .before .before .before .before .args .i))) (c .before .before .before .before .before .before .before .before .before .before .before .certificate-at .ensures) (
+    lt-ltb _ _ (c .before .before .before .before .before .before .before .before .before .if1 .left),
     (
-      ap (ltb (c .before .before .before .before .before .before .before .before .before .before .before .before .before .before .certificate-at .result .kind)) (length-entries kindFrom 7 (c .before .before .before .before .before .before .before .before .before .before .before .before .before .before .before .before .before .before .args .kinds .now) (length (c .before .before .before .before .before .before .before .before .before .before .before .before .before .before .before .before .before .before .args .kinds .now) / 7)) ∙ lt-ltb _ _ (c .before .before .before .before .before .before .before .before .before .before .if2 .left),
-      (lt-ltb _ _ (c .before .before .before .before .before .before .before .before .if3 .left), (ap not (sym (c .before .before .before .before .before .before .stands-already .ensures) ∙ c .before .before .before .before .before .if4 .left), tt)),
+      ap (ltb (c .before .before .before .before .before .before .before .before .before .before .before .certificate-at .result .kind)) (length-entries kindFrom 7 (c .before .before .before .before .before .before .before .before .before .before .before .before .before .before .before .args .kinds .now) (length (c .before .before .before .before .before .before .before .before .before .before .before .before .before .before .before .args .kinds .now) / 7)) ∙ lt-ltb _ _ (c .before .before .before .before .before .before .before .if2 .left),
+      (lt-ltb _ _ (c .before .before .before .before .before .if3 .left), (ap not (ap (λ (x : Certificate). any (sameCertificate x) (firstCertificates (c .before .before .before .before .before .before .before .before .before .before .before .before .before .before .before .args .state .now) (c .before .before .before .before .before .before .before .before .before .before .before .before .before .before .before .args .i))) (c .before .before .before .before .before .before .before .before .before .before .before .certificate-at .ensures) ∙ sym (c .before .before .before .stands-already .ensures .0) ∙ c .if4 .left), tt)),
     ),
   ),
-  λ q. traced-on (c .before .before .before .before .before .before .before .before .before .before .before .before .before .before .before .before .before .before .args .state .now) (c .before .before .before .before .before .before .before .before .before .before .before .before .before .before .before .before .before .before .args .traces .now) _ (c .before .before .before .before .before .before .before .before .before .before .before .before .before .before .before .before .before .before .args .i) (c .before .before .before .trace-of .result) (c .before .before .before .before .before .before .before .before .before .before .before .before .before .before .certificate-at .result) (c .before .before .before .before .before .before .before .before .before .before .before .before .before .before .certificate-at .ensures) (c .before .before .before .trace-of .ensures .1) (c .before .before .before .before .before .before .before .before .before .before .before .before .before .before .before .before .before .before .pre .2) (c .before .before .mark .ensures),
+  λ q. c .before .before .before .stands-already .ensures .1 (c .if4 .left),
 )
 
 pub certificate-sound-spec : {M : Type 1} → statement M
@@ -85,7 +77,5 @@ certificate-sound-spec =
     stands-already-requires
     same-length
     returns-4
-    trace-of-requires
-    mark-requires
     same-length-2
     returns-5)

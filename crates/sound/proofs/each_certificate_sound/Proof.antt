@@ -1,4 +1,4 @@
--- The invariant: the certificates passed are sound, each over those before it, and have left their traces.
+-- The invariant: the certificates passed are sound, each over those before it, and a search finds each.
 use Prim.Native.Nat.{ℕ, _≤_, _-_}
 use mathlib.Core.Path.{_≡_, refl, sym, ap, _∙_}
 use mathlib.Core.Bool.{true}
@@ -11,17 +11,17 @@ use Rattle.model.specs.Layout.{certificateFrom, certificateNumbers, certificate
 use Rattle.model.specs.Sound.{certificateSound}
 use Rattle.table.specs.Entries.{certificateAt, firstCertificates}
 use Rattle.policy.specs.Lent.{kindsOnly}
-use Rattle.sound.specs.Traces.{Traced}
+use Rattle.sound.specs.Seen.{Seen}
 use Rattle.sound.proofs.Parts.{earlier-next, earlier-miss}
 use borrow.Author.Needs.{needs}
 use Rattle.sound.proofs.each_certificate_sound.Statement.{statement}
 use Rattle.sound.proofs.each_certificate_sound.Tie as tie
 
 abbrev Inv-loop : tie.InvT-loop
-Inv-loop kinds state traces₀ n i₀ traces i = (i ≤ certificateCount state) × (length traces ≡ length traces₀) × Traced traces (firstCertificates state i) × (allOverEarlier (certificateSound (kindsOnly kinds)) [] (firstCertificates state i) ≡ true)
+Inv-loop kinds state links₀ n i₀ links i = (i ≤ certificateCount state) × (length links ≡ length links₀) × Seen state i links × (allOverEarlier (certificateSound (kindsOnly kinds)) [] (firstCertificates state i) ≡ true)
 
 abbrev μ-loop : tie.MeasureT-loop
-μ-loop kinds state traces₀ n i₀ traces i = certificateCount state - i
+μ-loop kinds state links₀ n i₀ links i = certificateCount state - i
 
 shared-slice-read-wide : tie.Need-shared-slice-read-wide Inv-loop μ-loop
 shared-slice-read-wide c = search needs
