@@ -14,8 +14,8 @@
  *   list    exactly 256 numbers, for adobethrum_chain
  *
  * What is asked of pointers: each points to as many readable numbers as its count says, aligned as uint16_t is; state and list, where
- * they are not const, are writable and overlap no other table of the call. A table of count 0 is empty; its pointer is not read, but it
- * is aligned and not NULL, as that of any array of the caller's is.
+ * they are not const, are writable and overlap no other table of the call. Of the pointer of an empty table, whose count is 0, nothing
+ * is asked: it may be any that C allows, NULL too, since nothing is read or written through it.
  */
 #ifndef ADOBETHRUM_H
 #define ADOBETHRUM_H

@@ -1,6 +1,7 @@
 #!/usr/bin/env bash
 # terminals/run.sh FOLDER: builds the two terminals against what 'bin/ship FOLDER' put there, as they are and with broken tables,
-# compares transcript and exit status, and measures the stack that the calls take. Its last line is 'N passed, M failed'.
+# compares transcript and exit status, lends empty tables, and measures the stack that the calls take. Its last line is 'N passed, M
+# failed'.
 set -u
 if [ $# -ne 1 ]; then
     echo "usage: terminals/run.sh FOLDER" >&2
@@ -25,8 +26,8 @@ check() { # NAME COMMAND..
     fi
 }
 
-compile() { # SOURCE PROGRAM
-    gcc -std=c99 -Wall -Wextra -Werror -pedantic -O2 -I "$folder" "$1" "$folder/libborder.a" -pthread -o "$2"
+compile() { # SOURCE PROGRAM [OPTION..]
+    gcc -std=c99 -Wall -Wextra -Werror -pedantic -O2 "${@:3}" -I "$folder" "$1" "$folder/libborder.a" -pthread -o "$2"
 }
 
 compile_rust() { # CRATE PROGRAM
@@ -62,6 +63,10 @@ for terminal in c rust; do
     check "$terminal: a day in the yard" tells "$terminal-yard" yard 0
     check "$terminal: stops at half a policy" tells "$terminal-half" half 1
     check "$terminal: stops at a spoilt state" tells "$terminal-spoilt" spoilt 1
+done
+for level in -O0 -O2; do
+    check "the empty tables are built, $level" compile "$here/c/empty.c" "$made/empty$level" "$level"
+    check "empty tables with any pointer, $level" "$made/empty$level"
 done
 check "the measure of the stack is built" compile "$here/c/stack.c" "$made/stack"
 check "the stack that the calls take" "$made/stack"

@@ -43,9 +43,9 @@ enum Missing {
 fn missing(world: &World, state: &[u16], user: u16, condition: u16) -> Option<Missing> {
     let is_active = |role| active_rows(state).iter().any(|row| row[0] == user && row[1] == role);
     match condition {
-        0..=255 => (!is_active(condition)).then_some(Missing::Role(condition)),
-        256..=383 => {
-            let kind = condition - 256;
+        ..FIRST_KIND => (!is_active(condition)).then_some(Missing::Role(condition)),
+        FIRST_KIND..FIRST_FACT => {
+            let kind = condition - FIRST_KIND;
             let stands = certificates(state).iter().any(|row| row[0] == user && row[1] == kind);
             let row = &world.tables.kinds[KIND * usize::from(kind)..][..KIND];
             let prerequisites = &row[3..3 + usize::from(row[2])];
@@ -56,7 +56,10 @@ fn missing(world: &World, state: &[u16], user: u16, condition: u16) -> Option<Mi
                 Some(Missing::Certificate(kind))
             }
         }
-        _ => (state[usize::from(condition - 384)] == 0).then_some(Missing::Fact(condition - 384)),
+        _ => {
+            let fact = condition - FIRST_FACT;
+            (state[usize::from(fact)] == 0).then_some(Missing::Fact(fact))
+        }
     }
 }
 

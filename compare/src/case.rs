@@ -1,14 +1,24 @@
 //! A case: tables, a state, and the events that are run on them.
 
+/// The numbers of a row, and the most rows, of each table of a policy.
 pub const RULE: usize = 11;
 pub const KIND: usize = 7;
 pub const RIGHT: usize = 2;
+pub const MOST_RULES: usize = 512;
+pub const MOST_KINDS: usize = 128;
+pub const MOST_RIGHTS: usize = 2_048;
+/// Where kinds and facts begin among the numbers of conditions, after the roles.
+pub const FIRST_KIND: u16 = 256;
+pub const FIRST_FACT: u16 = 384;
+pub const ROLES: usize = 256;
 pub const FACTS: usize = 64;
 pub const STATE: usize = 1_602;
 pub const LIST: usize = 256;
 /// Where the counts of active rows and of certificates stand in a state.
 pub const ROW_COUNT: usize = 64;
 pub const CERTIFICATE_COUNT: usize = 833;
+/// The most active rows of a state, and the most certificates.
+pub const MOST_ROWS: usize = 256;
 
 #[derive(Clone, Copy, Debug, PartialEq, Eq)]
 pub enum Name {
@@ -119,7 +129,12 @@ pub fn rows_after(state: &[u16], count_at: usize) -> &[[u16; 3]] {
         return &[];
     };
     let (rows, _) = rest.as_chunks::<3>();
-    &rows[..usize::from(count).min(rows.len()).min(256)]
+    &rows[..usize::from(count).min(rows.len()).min(MOST_ROWS)]
+}
+
+/// Where the room for the rows after a count ends.
+pub fn end_of_rows(count_at: usize) -> usize {
+    count_at + 1 + 3 * MOST_ROWS
 }
 
 pub fn active_rows(state: &[u16]) -> &[[u16; 3]] {

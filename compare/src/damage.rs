@@ -13,7 +13,7 @@ pub fn wild(random: &mut Random, tables: &Tables) -> u16 {
     match random.below(8) {
         0 => random.number(),
         1 => 65_535,
-        2 => (256 + tables.kind_count()) as u16 - random.below(2) as u16,
+        2 => FIRST_KIND + tables.kind_count() as u16 - random.below(2) as u16,
         3 => (tables.rule_count() as u16).wrapping_sub(random.below(2) as u16),
         _ => random.pick(&NEAR),
     }
@@ -40,9 +40,9 @@ pub fn damage_tables(random: &mut Random, case: &mut Case) {
 
 fn pick_table(which: usize, tables: &mut Tables) -> (&mut Vec<u16>, usize, usize) {
     match which {
-        0 => (&mut tables.rules, RULE, 512),
-        1 => (&mut tables.kinds, KIND, 128),
-        _ => (&mut tables.rights, RIGHT, 2_048),
+        0 => (&mut tables.rules, RULE, MOST_RULES),
+        1 => (&mut tables.kinds, KIND, MOST_KINDS),
+        _ => (&mut tables.rights, RIGHT, MOST_RIGHTS),
     }
 }
 
@@ -202,7 +202,7 @@ fn two_rows(random: &mut Random, state: &mut [u16], count_at: usize) {
 /// A row goes, rightly closed up: what rests on it stays without support.
 fn row_gone(random: &mut Random, state: &mut [u16], count_at: usize) {
     let Some(at) = some_row_at(random, state, count_at) else { return };
-    let end = count_at + 1 + 3 * 256;
+    let end = end_of_rows(count_at);
     state.copy_within(at + 3..end, at);
     state[end - 3..end].fill(0);
     state[count_at] -= 1;
@@ -211,7 +211,7 @@ fn row_gone(random: &mut Random, state: &mut [u16], count_at: usize) {
 /// A number that is not zero past the count: next to it, at the end, or between.
 fn past_count(random: &mut Random, state: &mut [u16], count_at: usize) {
     let first = count_at + 1 + 3 * rows_after(state, count_at).len();
-    let end = count_at + 1 + 3 * 256;
+    let end = end_of_rows(count_at);
     if first < end {
         let between = first + random.below(end - first);
         let at = random.pick(&[first, first + 1, first + 2, end - 1, between]);

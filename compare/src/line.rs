@@ -84,9 +84,9 @@ pub fn records(case: &Case) -> Option<Vec<String>> {
     if case.state != [0; STATE] {
         return None;
     }
-    let mut lines = rows("rule", &case.tables.rules, RULE, 512)?;
-    lines.extend(rows("kind", &case.tables.kinds, KIND, 128)?);
-    lines.extend(rows("right", &case.tables.rights, RIGHT, 2_048)?);
+    let mut lines = rows("rule", &case.tables.rules, RULE, MOST_RULES)?;
+    lines.extend(rows("kind", &case.tables.kinds, KIND, MOST_KINDS)?);
+    lines.extend(rows("right", &case.tables.rights, RIGHT, MOST_RIGHTS)?);
     for event in &case.events {
         if matches!(event.name, Name::Fresh | Name::Chain) {
             return None;

@@ -25,7 +25,7 @@ fn weights(mood: Mood) -> [usize; 10] {
 
 pub fn event(random: &mut Random, world: &World, state: &[u16], mood: Mood) -> Event {
     if mood == Mood::Build && !random.once_in(3) {
-        if active_rows(state).len() == 256 && !random.once_in(8) {
+        if active_rows(state).len() == MOST_ROWS && !random.once_in(8) {
             return named_event(random, world, state, mood, Name::Appoint);
         }
         if let Some(event) = next_step(random, world, state) {

@@ -68,7 +68,7 @@ pub fn session(
 /// A session builds until it is full or its first half is over; then the mood
 /// changes now and then.
 fn next_mood(random: &mut Random, state: &[u16], now: Mood, index: usize, events: usize) -> Mood {
-    let full = active_rows(state).len() == 256 && certificates(state).len() == 256;
+    let full = active_rows(state).len() == MOST_ROWS && certificates(state).len() == MOST_ROWS;
     if (index < events / 2 && !full) || !random.once_in(events.div_ceil(12)) {
         return now;
     }

@@ -143,7 +143,8 @@ fn cut_kinds(case: &mut Case, from: usize, to: usize) {
     case.tables.kinds.drain(KIND * from..KIND * to);
     let (first, gone) = (to as u16, (to - from) as u16);
     for row in case.tables.rules.chunks_exact_mut(RULE) {
-        let moved = row[3..].iter_mut().filter(|number| (256 + first..384).contains(*number));
+        let moved =
+            row[3..].iter_mut().filter(|number| (FIRST_KIND + first..FIRST_FACT).contains(*number));
         moved.for_each(|number| *number -= gone);
     }
     for event in &mut case.events {
@@ -159,7 +160,7 @@ fn cut_kinds(case: &mut Case, from: usize, to: usize) {
 }
 
 fn cut_rows(state: &mut [u16], count_at: usize, from: usize, to: usize) {
-    let end = (count_at + 1 + 3 * 256).min(state.len());
+    let end = end_of_rows(count_at).min(state.len());
     let [from_at, to_at] = [from, to].map(|row| count_at + 1 + 3 * row);
     state.copy_within(to_at..end, from_at);
     state[end - (to_at - from_at)..end].fill(0);

@@ -8,7 +8,7 @@ use crate::random::Random;
 use crate::sessions::fresh_state;
 use crate::worlds::{world, Size, World};
 
-const MOST: usize = 65_536;
+const MOST_BYTES: usize = 65_536;
 
 pub fn text(random: &mut Random) -> Vec<u8> {
     match random.below(40) {
@@ -179,7 +179,8 @@ fn line_end(random: &mut Random, text: &[u8]) -> usize {
 /// A text as long as may be, or a little longer or shorter.
 fn long(random: &mut Random) -> Vec<u8> {
     let mut text = session(random, Size::Small);
-    let length = random.pick(&[MOST - 1, MOST, MOST + 1, MOST + 2, 70_000, 200_000]);
+    let length =
+        random.pick(&[MOST_BYTES - 1, MOST_BYTES, MOST_BYTES + 1, MOST_BYTES + 2, 70_000, 200_000]);
     match random.below(3) {
         0 => text.resize(length, b'1'),
         1 => {
@@ -196,8 +197,11 @@ fn long(random: &mut Random) -> Vec<u8> {
 
 /// As many policy records as may be, one less or one more, and two events.
 fn many_rows(random: &mut Random) -> Vec<u8> {
-    let (row, most) =
-        random.pick(&[("rule,1,0", 512), ("kind,1,0,255,254", 128), ("right,1,1023", 2_048)]);
+    let (row, most) = random.pick(&[
+        ("rule,1,0", MOST_RULES),
+        ("kind,1,0,255,254", MOST_KINDS),
+        ("right,1,1023", MOST_RIGHTS),
+    ]);
     let count = most + random.below(3) - 1;
     let mut records = vec![row.to_string(); count];
     records.extend(["activate,1,1", "invoke,1,1023", "appoint,1,4095,127"].map(String::from));

@@ -25,8 +25,8 @@ pub fn world(random: &mut Random, size: Size) -> World {
     let (users, roles, kinds) = match size {
         Size::Small => (random.between(1, 4), random.between(2, 8), random.below(5)),
         Size::Middle => (random.between(4, 20), random.between(16, 64), random.between(4, 32)),
-        Size::Full => (random.between(12, 40), 256, 128),
-        Size::Ladder => (random.between(1, 2), 256, 128),
+        Size::Full => (random.between(12, 40), ROLES, MOST_KINDS),
+        Size::Ladder => (random.between(1, 2), ROLES, MOST_KINDS),
     };
     let facts = if size == Size::Small { random.between(1, 3) } else { random.between(3, 64) };
     let mut world = World {
@@ -95,7 +95,7 @@ fn add_rules(random: &mut Random, world: &mut World) {
     let count = match world.size {
         Size::Small => random.between(roles, 3 * roles),
         Size::Middle => random.between(roles, 128),
-        Size::Full | Size::Ladder => 512,
+        Size::Full | Size::Ladder => MOST_RULES,
     };
     for index in 0..count {
         // First one rule for nearly every role, then further ones for any.
@@ -136,7 +136,7 @@ fn rule(random: &mut Random, world: &World, place: usize) -> [u16; RULE] {
 /// What a role on the ladder rests on: the one below, or a kind that wants it.
 fn rung(random: &mut Random, world: &World, place: usize) -> u16 {
     if place % 2 == 1 && random.once_in(2) {
-        return 256 + (place / 2) as u16;
+        return FIRST_KIND + (place / 2) as u16;
     }
     world.roles[place - 1]
 }
@@ -150,8 +150,8 @@ fn condition(random: &mut Random, world: &World, place: usize) -> u16 {
     match random.weighted(&weights) {
         0 if place > 0 => world.roles[random.below(place)],
         0 | 1 => random.pick(&world.roles),
-        2 => 256 + random.below(kinds) as u16,
-        _ => 384 + random.pick(&world.facts),
+        2 => FIRST_KIND + random.below(kinds) as u16,
+        _ => FIRST_FACT + random.pick(&world.facts),
     }
 }
 
@@ -159,7 +159,7 @@ fn add_rights(random: &mut Random, world: &mut World) {
     let count = match world.size {
         Size::Small => random.below(12),
         Size::Middle => random.between(40, 256),
-        Size::Full | Size::Ladder => 2_048,
+        Size::Full | Size::Ladder => MOST_RIGHTS,
     };
     for _ in 0..count {
         let row = [random.pick(&world.roles), random.pick(&world.privileges)];

@@ -45,19 +45,19 @@ enum second { DONE, ENDED, ALLOWED };
 
 /* Tells what a call answered, and gives its second number. After broken tables nothing can be relied on: the terminal
  * stops. Any other refusal has changed nothing, and the work goes on. */
-static unsigned tell(enum second second, const char *what, struct adobethrum_answer r)
+static unsigned tell(enum second second, const char *what, struct adobethrum_answer answer)
 {
-    printf("%s: %u,%u: ", what, r.code, r.second);
-    if (r.code != ADOBETHRUM_ACCEPTED || second == DONE)
-        puts(told[r.code]);
+    printf("%s: %u,%u: ", what, answer.code, answer.second);
+    if (answer.code != ADOBETHRUM_ACCEPTED || second == DONE)
+        puts(told[answer.code]);
     else if (second == ENDED)
-        printf("Roles ended: %u.\n", r.second);
+        printf("Roles ended: %u.\n", answer.second);
     else
-        puts(r.second ? "Yes." : "No.");
-    if (r.code == ADOBETHRUM_MALFORMED_POLICY || r.code == ADOBETHRUM_UNSOUND_STATE ||
-        r.code == ADOBETHRUM_WRITTEN_TWICE)
+        puts(answer.second ? "Yes." : "No.");
+    if (answer.code == ADOBETHRUM_MALFORMED_POLICY || answer.code == ADOBETHRUM_UNSOUND_STATE ||
+        answer.code == ADOBETHRUM_WRITTEN_TWICE)
         exit(1);
-    return r.second;
+    return answer.second;
 }
 
 static void work(uint16_t *state)
