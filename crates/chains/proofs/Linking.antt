@@ -10,7 +10,7 @@ use lib.Dec.{eqb}
 use lib.ListN.{getD, set, replicate, length-set, length-replicate, getD-replicate}
 use lib.Seq.{getD-set-same, getD-set-other}
 use borrow.Author.Tests.{eqb-true, eqb-false}
-use Rattle.chains.specs.Chained.{userAt, bucket, Link, Begins, GoesOn}
+use Rattle.chains.specs.Chained.{mostEntries, noEntry, userAt, buckets, bucket, Link, Begins, GoesOn}
 
 module _ (s : List ℕ) (place n : ℕ) where
   -- ── along a chain ──
@@ -24,8 +24,8 @@ module _ (s : List ℕ) (place n : ℕ) where
 
   -- ── from the last entry to the first ──
 
-  module _ (few : n ≤ 256) where
-    link-none : (b : ℕ) → Link s place n b n 256
+  module _ (few : n ≤ mostEntries) where
+    link-none : (b : ℕ) → Link s place n b n noEntry
     link-none b = record { ahead = few; within = omega arith; there = λ h. absurd (omega arith); first = λ h after inside e. absurd (omega arith) }
 
     -- entry i is the first of its own chain, and of no other
@@ -40,18 +40,18 @@ module _ (s : List ℕ) (place n : ℕ) where
           go h before e (inl same) = absurd (other (sym e ∙ ap (λ (x : ℕ). bucket (userAt s place x)) (sym same)))
           go h before e (inr later) = l .first h (omega arith) before e
 
-    begins-none : Begins s place n n (replicate 512 256)
-    begins-none = record { size = length-replicate {A = ℕ} 512 256; begins = λ b h. subst⁻¹ (Link s place n b n) (getD-replicate 512 b 256 0 h) (link-none b) }
+    begins-none : Begins s place n n (replicate buckets noEntry)
+    begins-none = record { size = length-replicate {A = ℕ} buckets noEntry; begins = λ b h. subst⁻¹ (Link s place n b n) (getD-replicate buckets b noEntry 0 h) (link-none b) }
 
-    goes-on-none : GoesOn s place n n (replicate 256 256)
-    goes-on-none = record { size = length-replicate {A = ℕ} 256 256; goes-on = λ k after before. absurd (omega arith) }
+    goes-on-none : GoesOn s place n n (replicate mostEntries noEntry)
+    goes-on-none = record { size = length-replicate {A = ℕ} mostEntries noEntry; goes-on = λ k after before. absurd (omega arith) }
 
     -- entry i is put before those behind it
-    module _ (i b : ℕ) (inside : i < n) (own : b ≡ bucket (userAt s place i)) (small : b < 512) (heads : List ℕ) (x : Begins s place n (i + 1) heads) where
+    module _ (i b : ℕ) (inside : i < n) (own : b ≡ bucket (userAt s place i)) (small : b < buckets) (heads : List ℕ) (x : Begins s place n (i + 1) heads) where
       begins-more : Begins s place n i (set heads b i)
       begins-more = record { size = length-set heads b i ∙ x .size; begins = λ c h. go c h (eqb c b) refl }
         where
-          go : (c : ℕ) → c < 512 → (t : Bool) → eqb c b ≡ t → Link s place n c i (getD (set heads b i) c 0)
+          go : (c : ℕ) → c < buckets → (t : Bool) → eqb c b ≡ t → Link s place n c i (getD (set heads b i) c 0)
           go c h true t =
               let e = eqb-true c b t in
               subst⁻¹ (Link s place n c i) (ap (λ (y : ℕ). getD (set heads b i) y 0) e ∙ getD-set-same heads b i 0 (omega (arith, x .size))) (link-own i inside c (e ∙ own))
@@ -80,12 +80,12 @@ pub record Chaining (s : List ℕ) (place n i : ℕ) (heads next : List ℕ) : T
   pub begun : Begins s place n i heads
   pub behind : GoesOn s place n i next
 
-module _ (s : List ℕ) (place n : ℕ) (few : n ≤ 256) where
-  pub chaining-none : (heads next : List ℕ) → heads ≡ replicate 512 256 → next ≡ replicate 256 256 → Chaining s place n n heads next
+module _ (s : List ℕ) (place n : ℕ) (few : n ≤ mostEntries) where
+  pub chaining-none : (heads next : List ℕ) → heads ≡ replicate buckets noEntry → next ≡ replicate mostEntries noEntry → Chaining s place n n heads next
   chaining-none heads next e d =
       record { inside = omega arith; begun = subst⁻¹ (Begins s place n n) e (begins-none s place n few); behind = subst⁻¹ (GoesOn s place n n) d (goes-on-none s place n few) }
 
-  pub chaining-more : (j i b : ℕ) (heads next : List ℕ) → Chaining s place n j heads next → j ≡ i + 1 → b ≡ bucket (userAt s place i) → b < 512 → Chaining s place n i (set heads b i) (set next i (getD heads b 0))
+  pub chaining-more : (j i b : ℕ) (heads next : List ℕ) → Chaining s place n j heads next → j ≡ i + 1 → b ≡ bucket (userAt s place i) → b < buckets → Chaining s place n i (set heads b i) (set next i (getD heads b 0))
   chaining-more j i b heads next x step own small =
       let begun = subst (λ (k : ℕ). Begins s place n k heads) step (x .begun) in
       record {

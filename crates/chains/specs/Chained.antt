@@ -4,27 +4,40 @@ use mathlib.Core.Path.{_≡_}
 use mathlib.Core.List.{List}
 use lib.ListN.{length, getD}
 
+-- how many numbers an entry has, and how many entries a table has at most; the number past them all says that there is none
+abbrev pub entryWidth : ℕ
+entryWidth = 3
+
+abbrev pub mostEntries : ℕ
+mostEntries = 256
+
+abbrev pub noEntry : ℕ
+noEntry = mostEntries
+
 -- the user of entry i, where the entries stand from `place` on
 abbrev pub userAt : List ℕ → ℕ → ℕ → ℕ
-userAt s place i = getD s (i * 3 + place) 0
+userAt s place i = getD s (i * entryWidth + place) 0
 
--- the chain that a user's entries are in
+-- the chain that a user's entries are in, and how many chains there are
+abbrev pub buckets : ℕ
+buckets = 512
+
 abbrev pub bucket : ℕ → ℕ
-bucket u = u % 512
+bucket u = u % buckets
 
 -- of n entries, k is the first from i on that is in chain b; past them, if there is none
 pub record Link (s : List ℕ) (place n b i k : ℕ) : Type 0 where
   pub ahead : i ≤ k
-  pub within : k ≤ 256
+  pub within : k ≤ mostEntries
   pub there : k < n → bucket (userAt s place k) ≡ b
   pub first : (h : ℕ) → i ≤ h → h < n → bucket (userAt s place h) ≡ b → k ≤ h
 
 -- the entries from i on are chained: each chain's first stands in `heads`
 pub record Begins (s : List ℕ) (place n i : ℕ) (heads : List ℕ) : Type 0 where
-  pub size : length heads ≡ 512
-  pub begins : (b : ℕ) → b < 512 → Link s place n b i (getD heads b 0)
+  pub size : length heads ≡ buckets
+  pub begins : (b : ℕ) → b < buckets → Link s place n b i (getD heads b 0)
 
 -- and behind each entry the next of its chain in `next`
 pub record GoesOn (s : List ℕ) (place n i : ℕ) (next : List ℕ) : Type 0 where
-  pub size : length next ≡ 256
+  pub size : length next ≡ mostEntries
   pub goes-on : (k : ℕ) → i ≤ k → k < n → Link s place n (bucket (userAt s place k)) (k + 1) (getD next k 0)

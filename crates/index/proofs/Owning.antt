@@ -1,5 +1,5 @@
--- One user's own marks: what they say, and what one row or certificate more says.
-use Prim.Native.Nat.{ℕ, _+_, _≤_, _<_}
+-- One user's own marks: what holds by them holds for the user; and what one row or certificate more says.
+use Prim.Native.Nat.{ℕ, _+_, _-_, _≤_, _<_}
 use mathlib.Core.Path.{_≡_, refl, sym, ap, _∙_, subst⁻¹}
 use mathlib.Core.Bool.{Bool, true, false, _&&_, _||_, and-false, or-false}
 use mathlib.Core.Logic.{_≢_, _⊎_, inl, inr}
@@ -8,19 +8,20 @@ use native.Mathlib.Omega.{arith}
 use lib.Dec.{eqb}
 use lib.ListN.{length, set, replicate, length-set, length-replicate}
 use lib.Seq.{getD-set-same, getD-set-other}
-use borrow.Author.Tests.{eq-eqb, ne-eqb, lt-ltb}
+use borrow.Author.Tests.{eq-eqb, ne-eqb, lt-ltb, le-ltb}
+use Rattle.model.specs.Lists.{all}
 use Rattle.model.specs.Layout.{decode, rowCount, certificateCount, rowFrom, rowNumbers, certificateFrom, certificateNumbers}
-use Rattle.model.specs.Conditions.{isRow, active, someStands, supported, satisfied}
+use Rattle.model.specs.Conditions.{Condition, role, kind, fact, malformed, meant, activating, membership, prerequisiteRoles, kindNumbered, ruleNumbered, isRow, active, someStands, holds, allHold, supported, satisfied}
 use Rattle.model.specs.Values.{World}
 use Rattle.model.specs.declared.Rule.{Rule}
 use Rattle.model.specs.declared.Row.{Row}
 use Rattle.model.specs.declared.Certificate.{Certificate}
-use Rattle.model.proofs.Tests.{eq-or-ne, any-append, repeated}
+use Rattle.model.proofs.Tests.{lt-or-ge, eq-or-ne, any-append, repeated}
+use Rattle.model.proofs.Meaning.{meant-role, meant-kind, meant-fact, meant-nothing}
 use Rattle.table.specs.Entries.{rowAt, firstRows, certificateAt, firstCertificates}
 use Rattle.table.proofs.Entries.{entry-member, entries-more}
-use Rattle.index.specs.Marked.{has, roleMarked, supportedBy, satisfiedBy}
+use Rattle.index.specs.Marked.{ownMarks, has, roleMarked, holdsBy, supportedBy, satisfiedBy}
 use Rattle.index.specs.Owned.{InRange, Own}
-use Rattle.index.proofs.Holding.{Says, supported-said, satisfied-said}
 
 -- ── ranges, by places ──
 
@@ -35,23 +36,61 @@ certificate-in-range s r i h = r .certificates (certificateAt s i) (entry-member
 -- ── what the marks say ──
 
 -- no row and no certificate is marked
-pub own-none : (u : ℕ) → Own u (replicate 384 false) [] []
+pub own-none : (u : ℕ) → Own u (replicate ownMarks false) [] []
 unfolding active someStands
-own-none u = record { size = length-replicate 384 false; roles-marked = λ q l. repeated false 384 q; kinds-marked = λ k l. repeated false 384 (256 + k); beyond = λ q l. refl }
+own-none u = record { size = length-replicate ownMarks false; roles-marked = λ q l. repeated false ownMarks q; kinds-marked = λ k l. repeated false ownMarks (256 + k); beyond = λ q l. refl }
 
-module _ (u : ℕ) (own : List Bool) (rows : List Row) where
-  own-says : (certificates : List Certificate) → Own u own rows certificates → Says (has own) rows certificates u
-  own-says certificates x = record { roles-said = x .roles-marked; kinds-said = x .kinds-marked; beyond = x .beyond }
+module _ (u : ℕ) (own : List Bool) (rows : List Row) (certificates : List Certificate) (x : Own u own rows certificates) where
+  pub active-own : (q : ℕ) → q < 256 → roleMarked (has own) q ≡ active rows u q
+  active-own q h = ap (λ (b : Bool). b && has own q) (lt-ltb q 256 h) ∙ x .roles-marked q h
 
-  -- what code asks of them
-  pub supported-own : (w : World) → Own u own rows (w .certificates) → (r : Row) → r .user ≡ u → supportedBy (has own) w r ≡ supported w rows r
-  supported-own w x = supported-said (has own) rows w u (own-says (w .certificates) x)
+  role-own : (q : ℕ) → roleMarked (has own) q ≡ active rows u q
+  role-own q = go (lt-or-ge q 256)
+    where
+      go : (q < 256) ⊎ (256 ≤ q) → roleMarked (has own) q ≡ active rows u q
+      go (inl h) = active-own q h
+      go (inr h) = ap (λ (b : Bool). b && has own q) (le-ltb q 256 h) ∙ sym (x .beyond q h)
 
-  pub satisfied-own : (w : World) → Own u own rows (w .certificates) → (q : ℕ) (r : Rule) → satisfiedBy (has own) w q r ≡ satisfied w rows u q r
-  satisfied-own w x = satisfied-said (has own) rows w u (own-says (w .certificates) x)
+-- what holds by them holds
+module _ (u : ℕ) (own : List Bool) (rows : List Row) (w : World) (x : Own u own rows (w .certificates)) where
+  kind-own : (k : ℕ) → k < 128 → holdsBy (has own) w (kind k) ≡ holds w rows u (kind k)
+  unfolding holds holdsBy
+  kind-own k h = λ i. x .kinds-marked k h i && all (λ (q : ℕ). role-own u own rows (w .certificates) x q i) (prerequisiteRoles (kindNumbered (w .policy) k))
 
-  pub active-own : (certificates : List Certificate) → Own u own rows certificates → (q : ℕ) → q < 256 → roleMarked (has own) q ≡ active rows u q
-  active-own certificates x q h = ap (λ (b : Bool). b && has own q) (lt-ltb q 256 h) ∙ x .roles-marked q h
+  plain-role : (q : ℕ) → holdsBy (has own) w (role q) ≡ holds w rows u (role q)
+  unfolding holds holdsBy
+  plain-role q = role-own u own rows (w .certificates) x q
+
+  plain-fact : (f : ℕ) → holdsBy (has own) w (fact f) ≡ holds w rows u (fact f)
+  unfolding holds holdsBy
+  plain-fact f = refl
+
+  plain-nothing : holdsBy (has own) w malformed ≡ holds w rows u malformed
+  unfolding holds holdsBy
+  plain-nothing = refl
+
+  -- whatever number a condition has
+  condition-own : (c : ℕ) → holdsBy (has own) w (meant c) ≡ holds w rows u (meant c)
+  condition-own c = go (lt-or-ge c 256) (lt-or-ge c 384) (lt-or-ge c 448)
+    where
+      of : {y : Condition} → meant c ≡ y → holdsBy (has own) w y ≡ holds w rows u y → holdsBy (has own) w (meant c) ≡ holds w rows u (meant c)
+      of e h = ap (holdsBy (has own) w) e ∙ h ∙ ap (holds w rows u) (sym e)
+
+      go : (c < 256) ⊎ (256 ≤ c) → (c < 384) ⊎ (384 ≤ c) → (c < 448) ⊎ (448 ≤ c) → holdsBy (has own) w (meant c) ≡ holds w rows u (meant c)
+      go (inl h) b d = of (meant-role c h) (plain-role c)
+      go (inr h) (inl m) d = of (meant-kind c h m) (kind-own (c - 256) (omega arith))
+      go (inr h) (inr m) (inl n) = of (meant-fact c m n) (plain-fact (c - 384))
+      go (inr h) (inr m) (inr n) = of (meant-nothing c n) plain-nothing
+
+  pub supported-own : (r : Row) → r .user ≡ u → supportedBy (has own) w r ≡ supported w rows r
+  unfolding supported supportedBy
+  supported-own r e =
+      (λ i. all (λ (c : ℕ). condition-own c i) (membership (ruleNumbered (w .policy) (r .rule))))
+      ∙ ap (λ (v : ℕ). allHold w rows v (membership (ruleNumbered (w .policy) (r .rule)))) (sym e)
+
+  pub satisfied-own : (q : ℕ) (r : Rule) → satisfiedBy (has own) w q r ≡ satisfied w rows u q r
+  unfolding satisfied satisfiedBy
+  satisfied-own q r = λ i. eqb (r .target) q && all (λ (c : ℕ). condition-own c i) (activating r)
 
 -- ── one mark more ──
 
@@ -144,7 +183,7 @@ module _ (u : ℕ) (own : List Bool) (rows : List Row) (certificates : List Cert
     unfolding someStands
     certificate-more k = any-append (λ (d : Certificate). eqb (d .appointee) u && eqb (d .kind) k) certificates (c ∷ [])
 
-    pub certificate-own : c .appointee ≡ u → c .kind < 128 → Own u (set own (256 + c .kind) true) rows (certificates ++ (c ∷ []))
+    certificate-own : c .appointee ≡ u → c .kind < 128 → Own u (set own (256 + c .kind) true) rows (certificates ++ (c ∷ []))
     certificate-own e l =
         record {
           size = length-set own (256 + c .kind) true ∙ x .size;
@@ -156,7 +195,7 @@ module _ (u : ℕ) (own : List Bool) (rows : List Row) (certificates : List Cert
           beyond = x .beyond;
         }
 
-    pub certificate-other : c .appointee ≢ u → Own u own rows (certificates ++ (c ∷ []))
+    certificate-other : c .appointee ≢ u → Own u own rows (certificates ++ (c ∷ []))
     certificate-other e =
         record {
           size = x .size;

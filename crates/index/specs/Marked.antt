@@ -12,6 +12,10 @@ use Rattle.model.specs.Conditions.{Condition, role, kind, fact, malformed, mean
 use Rattle.model.specs.declared.Rule.{Rule}
 use Rattle.model.specs.declared.Row.{Row}
 
+-- one for each condition that is a role or a kind
+abbrev pub ownMarks : ℕ
+ownMarks = 384
+
 -- mark c of a user's own
 abbrev pub has : List Bool → ℕ → Bool
 has own c = getD own c false

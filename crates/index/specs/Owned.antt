@@ -10,7 +10,7 @@ use Rattle.model.specs.Conditions.{active, someStands}
 use Rattle.model.specs.declared.Row.{Row}
 use Rattle.model.specs.declared.Certificate.{Certificate}
 use Rattle.table.specs.Entries.{Sized}
-use Rattle.index.specs.Marked.{has}
+use Rattle.index.specs.Marked.{ownMarks, has}
 
 abbrev pub CertificatesInRange : List ℕ → Type 0
 CertificatesInRange s = (c : Certificate) → List·Memᴰ c (decode s .certificates) → (c .appointee < users) × (c .kind < mostKinds)
@@ -23,7 +23,7 @@ pub record InRange (s : List ℕ) : Type 0 where
 
 -- the marks say what these rows and certificates say of this user
 pub record Own (u : ℕ) (own : List Bool) (rows : List Row) (certificates : List Certificate) : Type 0 where
-  pub size : length own ≡ 384
+  pub size : length own ≡ ownMarks
   pub roles-marked : (q : ℕ) → q < roles → has own q ≡ active rows u q
   pub kinds-marked : (k : ℕ) → k < mostKinds → has own (256 + k) ≡ someStands certificates u k
   pub beyond : (q : ℕ) → roles ≤ q → active rows u q ≡ false

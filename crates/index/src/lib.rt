@@ -1,6 +1,5 @@
-// Judging conditions by marks. A user's own marks are 384, one for each condition that is a role or a kind: the roles that the user is
-// active in, then the kinds that stand for the user. So a condition is judged in as many steps as it asks for roles, however many rows
-// there are.
+// Judging conditions by marks. A user's own marks are one for each condition that is a role or a kind: the roles that the user is active
+// in, then the kinds that stand for the user. So a condition is judged in as many steps as it asks for roles, however many rows there are.
 ghost use mathlib.Core.Path.{_≡_};
 ghost use mathlib.Core.Bool.{false, _&&_};
 ghost use mathlib.Core.List.{[]};
@@ -12,7 +11,7 @@ ghost use Rattle.model.specs.Limits.{mostKinds};
 ghost use Rattle.model.specs.Layout.{decode, policyOf, factNumbers};
 ghost use Rattle.model.specs.Conditions.{meant, activating, prerequisiteRoles, kindNumbered};
 ghost use Rattle.table.specs.Entries.{worldAt, withoutRights, Sized};
-ghost use Rattle.index.specs.Marked.{has, roleMarked, holdsBy, allHoldBy, supportedBy};
+ghost use Rattle.index.specs.Marked.{ownMarks, has, roleMarked, holdsBy, allHoldBy, supportedBy};
 ghost use Rattle.index.specs.Owned.{InRange, Own};
 use model::CERTIFICATE_COUNT_AT;
 use model::FACTS_END;
@@ -24,12 +23,14 @@ use model::ROW_COUNT_AT;
 use model::Row;
 use model::Rule;
 
-// From which mark on they are kinds.
-pub const KINDS: usize = 256;
+// How many marks a user has, and from which on they are kinds.
+pub const OWN_MARKS: usize = 384;
+
+pub const KINDS_AT: usize = 256;
 
 // The role is marked. A role out of range never is.
 pub fn role_marked(own: &[bool], role: u16) -> bool
-    requires { ⌜ length (now own) ≡ 384 ⌝ }
+    requires { ⌜ length (now own) ≡ ownMarks ⌝ }
     ensures { λ r. ⌜ r ≡ roleMarked (has (now (own .entry))) role ⌝ }
 {
     if role < ROLES {
@@ -40,7 +41,7 @@ pub fn role_marked(own: &[bool], role: u16) -> bool
 
 // The first n of the roles are marked.
 fn all_marked(own: &[bool], roles: [u16; 4], n: usize) -> bool
-    requires { ⌜ (length (now own) ≡ 384) × (n ≤ 4) ⌝ }
+    requires { ⌜ (length (now own) ≡ ownMarks) × (n ≤ 4) ⌝ }
     ensures { λ r. ⌜ r ≡ all (roleMarked (has (now (own .entry)))) (take n roles) ⌝ }
 {
     let mut j: usize = 0;
@@ -55,10 +56,10 @@ fn all_marked(own: &[bool], roles: [u16; 4], n: usize) -> bool
 
 // A certificate of the kind stands, and the kind's prerequisite roles are marked.
 fn kind_holds(kinds: &[u16], own: &[bool], kind: u16) -> bool
-    requires { ⌜ (length (now own) ≡ 384) × (kind < mostKinds) ⌝ }
+    requires { ⌜ (length (now own) ≡ ownMarks) × (kind < mostKinds) ⌝ }
     ensures { λ r. ⌜ r ≡ (has (now (own .entry)) (256 + kind) && all (roleMarked (has (now (own .entry)))) (prerequisiteRoles (kindNumbered (policyOf (withoutRights [] (now (kinds .entry)))) kind))) ⌝ }
 {
-    if !own[KINDS + table::wide(kind)] {
+    if !own[KINDS_AT + table::wide(kind)] {
         return false;
     }
     let row = table::kind_numbered(kinds, table::wide(kind));
@@ -81,7 +82,7 @@ fn fact_holds(state: &[u16], fact: u16) -> bool
 
 // The condition holds by the marks.
 fn condition_holds(kinds: &[u16], state: &[u16], own: &[bool], c: u16) -> bool
-    requires { ⌜ Sized (now state) × (length (now own) ≡ 384) ⌝ }
+    requires { ⌜ Sized (now state) × (length (now own) ≡ ownMarks) ⌝ }
     ensures { λ r. ⌜ r ≡ holdsBy (has (now (own .entry))) (worldAt [] (now (kinds .entry)) (now (state .entry))) (meant c) ⌝ }
 {
     if c < FIRST_KIND {
@@ -104,7 +105,7 @@ fn all_conditions_hold(
     conditions: [u16; 8],
     n: usize,
 ) -> bool
-    requires { ⌜ Sized (now state) × (length (now own) ≡ 384) × (n ≤ 8) ⌝ }
+    requires { ⌜ Sized (now state) × (length (now own) ≡ ownMarks) × (n ≤ 8) ⌝ }
     ensures { λ r. ⌜ r ≡ allHoldBy (has (now (own .entry))) (worldAt [] (now (kinds .entry)) (now (state .entry))) (take n conditions) ⌝ }
 {
     let mut j: usize = 0;
@@ -119,7 +120,7 @@ fn all_conditions_hold(
 
 // The membership conditions of the row's own rule hold by its user's own marks.
 pub fn row_supported(rules: &[u16], kinds: &[u16], state: &[u16], own: &[bool], row: Row) -> bool
-    requires { ⌜ Sized (now state) × (length (now own) ≡ 384) ⌝ }
+    requires { ⌜ Sized (now state) × (length (now own) ≡ ownMarks) ⌝ }
     ensures { λ r. ⌜ r ≡ supportedBy (has (now (own .entry))) (worldAt (now (rules .entry)) (now (kinds .entry)) (now (state .entry))) row ⌝ }
 {
     let rule = table::rule_numbered(rules, table::wide(row.rule));
@@ -130,7 +131,7 @@ pub fn row_supported(rules: &[u16], kinds: &[u16], state: &[u16], own: &[bool], 
 
 // The rule's conditions all hold by the marks.
 pub fn rule_holds(kinds: &[u16], state: &[u16], own: &[bool], rule: Rule) -> bool
-    requires { ⌜ Sized (now state) × (length (now own) ≡ 384) ⌝ }
+    requires { ⌜ Sized (now state) × (length (now own) ≡ ownMarks) ⌝ }
     ensures { λ r. ⌜ r ≡ allHoldBy (has (now (own .entry))) (worldAt [] (now (kinds .entry)) (now (state .entry))) (activating rule) ⌝ }
 {
     let conditions = rule.conditions;
@@ -140,7 +141,7 @@ pub fn rule_holds(kinds: &[u16], state: &[u16], own: &[bool], rule: Rule) -> boo
 
 // The roles that the user is active in are marked.
 pub fn mark_roles(state: &[u16], user: u16, own: &mut [bool])
-    requires { ⌜ InRange (now state) × (now own ≡ replicate 384 false) ⌝ }
+    requires { ⌜ InRange (now state) × (now own ≡ replicate ownMarks false) ⌝ }
     ensures { λ r. ⌜ Own user (now (own .exit)) (decode (now (state .entry)) .rows) [] ⌝ }
 {
     let n = table::wide(state[ROW_COUNT_AT]);
@@ -165,7 +166,7 @@ pub fn mark_kinds(state: &[u16], user: u16, own: &mut [bool])
         let certificate = table::certificate_at(state, j);
         j += 1;
         if certificate.appointee == user {
-            own[KINDS + table::wide(certificate.kind)] = true;
+            own[KINDS_AT + table::wide(certificate.kind)] = true;
         }
     }
 }

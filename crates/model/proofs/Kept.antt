@@ -57,7 +57,6 @@ row-added p t r h room s =
     (sound-certificates p t h)
     (earlier-last (rowSound (worldOf p t)) (t .rows) r (sound-rows p t h) s)
 
--- a rule of a sound policy keeps no condition that it does not ask for at grant
 take-grows : {A : Type 0} (m n : ℕ) (l : List A) (x : A) → m ≤ n → List·Memᴰ x (take m l) → List·Memᴰ x (take n l)
 take-grows zero n l x h k = absurd (List·Memᴰ·not-nil k)
 take-grows (suc m) n [] x h k = absurd (List·Memᴰ·not-nil k)
@@ -72,6 +71,7 @@ rule-fits : (t : Tables) → T (soundPolicy t) → (i : ℕ) → i < length (pol
 unfolding policyClauses
 rule-fits t h i l = all-of (ruleFits (policyOf t)) (policyOf t .rules) (each (policyClauses t) h .1 .1 .1 .1 .1 .1 .0) (ruleNumbered (policyOf t) i) (at-place (policyOf t .rules) i _ l)
 
+-- a rule of a sound policy keeps no condition that it does not ask for at grant
 membership-asked : (p : Policy) (r : Rule) → T (ruleFits p r) → (c : ℕ) → List·Memᴰ c (membership r) → List·Memᴰ c (activating r)
 unfolding ruleClauses
 membership-asked p r h c m = take-grows (r .m) (r .n) (r .conditions) c (leb→le (r .m) (r .n) (each (ruleClauses p r) h .1 .0)) m

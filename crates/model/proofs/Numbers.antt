@@ -266,18 +266,18 @@ module _ (s : List ℕ) (t : T (wellFormed s)) where
       certificates-counted : length (map certificateFrom (rowsOf certificateWidth (certificateCount s) (certificateNumbers s))) ≡ certificateCount s
       certificates-counted = length-map (rowsOf certificateWidth (certificateCount s) (certificateNumbers s)) certificateFrom ∙ length-rows certificateWidth (certificateCount s) (certificateNumbers s)
 
-      table-length : (at : ℕ) → at + 768 ≤ stateSize → length (take 768 (drop at s)) ≡ 768
-      table-length at h = length-take-le 768 (drop at s) (simp length-drop (omega (arith, formed-size)))
+      table-length : (at size : ℕ) → at + size ≤ stateSize → length (take size (drop at s)) ≡ size
+      table-length at size h = length-take-le size (drop at s) (simp length-drop (omega (arith, formed-size)))
 
       rows-numbers : filledTo (mostRows * rowWidth) (joined fromRow (map rowFrom (rowsOf rowWidth (rowCount s) (rowNumbers s)))) ≡ rowNumbers s
       rows-numbers =
-          ap (λ (l : List ℕ). filledTo (mostRows * rowWidth) l) (numbers-back rowWidth rowFrom fromRow row-forth (rowCount s) (rowNumbers s) (omega (arith, formed-rows, table-length rowsAt (omega arith))))
-          ∙ filled-back (mostRows * rowWidth) (rowCount s * rowWidth) (rowNumbers s) (table-length rowsAt (omega arith)) (omega (arith, formed-rows)) (each (formClauses s) t .1 .1 .1 .1 .0)
+          ap (λ (l : List ℕ). filledTo (mostRows * rowWidth) l) (numbers-back rowWidth rowFrom fromRow row-forth (rowCount s) (rowNumbers s) (omega (arith, formed-rows, table-length rowsAt (mostRows * rowWidth) (omega arith))))
+          ∙ filled-back (mostRows * rowWidth) (rowCount s * rowWidth) (rowNumbers s) (table-length rowsAt (mostRows * rowWidth) (omega arith)) (omega (arith, formed-rows)) (each (formClauses s) t .1 .1 .1 .1 .0)
 
       certificates-numbers : filledTo (mostCertificates * certificateWidth) (joined fromCertificate (map certificateFrom (rowsOf certificateWidth (certificateCount s) (certificateNumbers s)))) ≡ certificateNumbers s
       certificates-numbers =
-          ap (λ (l : List ℕ). filledTo (mostCertificates * certificateWidth) l) (numbers-back certificateWidth certificateFrom fromCertificate certificate-forth (certificateCount s) (certificateNumbers s) (omega (arith, formed-certificates, table-length certificatesAt (omega arith))))
-          ∙ filled-back (mostCertificates * certificateWidth) (certificateCount s * certificateWidth) (certificateNumbers s) (table-length certificatesAt (omega arith)) (omega (arith, formed-certificates)) (each (formClauses s) t .1 .1 .1 .1 .1 .0)
+          ap (λ (l : List ℕ). filledTo (mostCertificates * certificateWidth) l) (numbers-back certificateWidth certificateFrom fromCertificate certificate-forth (certificateCount s) (certificateNumbers s) (omega (arith, formed-certificates, table-length certificatesAt (mostCertificates * certificateWidth) (omega arith))))
+          ∙ filled-back (mostCertificates * certificateWidth) (certificateCount s * certificateWidth) (certificateNumbers s) (table-length certificatesAt (mostCertificates * certificateWidth) (omega arith)) (omega (arith, formed-certificates)) (each (formClauses s) t .1 .1 .1 .1 .1 .0)
 
 -- ── soundness of a value ──
 

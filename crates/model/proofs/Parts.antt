@@ -32,6 +32,7 @@ module _ {A : Type 0} where
   pub part-front : (xs ys : List A) → Sublistᴰ xs (xs ++ ys)
   part-front xs ys = subst (λ (l : List A). Sublistᴰ l (xs ++ ys)) (append-nil xs) (Sublistᴰ·append (Sublistᴰ·refl xs) (Sublistᴰ·nil-sublist ys))
 
+  -- the library says this of its own numbers; code counts with the native ones
   pub part-length : (xs ys : List A) → Sublistᴰ xs ys → length xs ≤ length ys
   part-length xs [] d = subst⁻¹ (λ (l : List A). length l ≤ 0) (Sublistᴰ·eq-nil d) (omega arith)
   part-length xs (y ∷ ys) d = go (λ zs u. part-length zs ys u) (Sublistᴰ·cases-cons d)

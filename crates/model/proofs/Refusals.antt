@@ -43,7 +43,7 @@ abbrev pub Passed : List Refusal → Type 0
 Passed [] = Unit {0}
 Passed (r ∷ rs) = T (not (r .applies)) × Passed rs
 
-abbrev pub hasCode : Refusal → Bool
+abbrev hasCode : Refusal → Bool
 hasCode r = not (isZero (r .code))
 
 passed : (rs : List Refusal) → T (all hasCode rs) → firstCode rs ≡ 0 → Passed rs

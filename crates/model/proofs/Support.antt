@@ -62,18 +62,18 @@ active-grows xs ys u q f t = any-map (isRow u q) (isRow u q) xs ys (λ r m h. (f
 
 -- ── a condition is a part that reads no rows, and roles that must be active ──
 
-rest : World → ℕ → Condition → Bool
-rest w u (role q) = true
-rest w u (kind k) = someStands (w .certificates) u k
-rest w u (fact f) = eqb (getD (w .facts) f 0) 1
-rest w u malformed = false
+rowless : World → ℕ → Condition → Bool
+rowless w u (role q) = true
+rowless w u (kind k) = someStands (w .certificates) u k
+rowless w u (fact f) = eqb (getD (w .facts) f 0) 1
+rowless w u malformed = false
 
-holds-rest : (w : World) (rows : List Row) (u : ℕ) (c : Condition) → T (holds w rows u c) → T (rest w u c)
-unfolding holds rest
-holds-rest w rows u (role q) t = tt
-holds-rest w rows u (kind k) t = and-left (someStands (w .certificates) u k) (all (active rows u) (prerequisiteRoles (kindNumbered (w .policy) k))) t
-holds-rest w rows u (fact f) t = t
-holds-rest w rows u malformed t = t
+holds-rowless : (w : World) (rows : List Row) (u : ℕ) (c : Condition) → T (holds w rows u c) → T (rowless w u c)
+unfolding holds rowless
+holds-rowless w rows u (role q) t = tt
+holds-rowless w rows u (kind k) t = and-left (someStands (w .certificates) u k) (all (active rows u) (prerequisiteRoles (kindNumbered (w .policy) k))) t
+holds-rowless w rows u (fact f) t = t
+holds-rowless w rows u malformed t = t
 
 holds-roles : (w : World) (rows : List Row) (u : ℕ) (c : Condition) → T (holds w rows u c) → (q : ℕ) → List·Memᴰ q (rolesAsked (w .policy) c) → T (active rows u q)
 unfolding holds rolesAsked
@@ -82,8 +82,8 @@ holds-roles w rows u (kind k) t x m = all-of (active rows u) (prerequisiteRoles 
 holds-roles w rows u (fact f) t x m = absurd (List·Memᴰ·not-nil m)
 holds-roles w rows u malformed t x m = absurd t
 
-of-holds : (w : World) (rows : List Row) (u : ℕ) (c : Condition) → T (rest w u c) → ((q : ℕ) → List·Memᴰ q (rolesAsked (w .policy) c) → T (active rows u q)) → T (holds w rows u c)
-unfolding holds rest rolesAsked
+of-holds : (w : World) (rows : List Row) (u : ℕ) (c : Condition) → T (rowless w u c) → ((q : ℕ) → List·Memᴰ q (rolesAsked (w .policy) c) → T (active rows u q)) → T (holds w rows u c)
+unfolding holds rowless rolesAsked
 of-holds w rows u (role q) t h = h q (List·Memᴰ·head refl)
 of-holds w rows u (kind k) t h = and-both (someStands (w .certificates) u k) (all (active rows u) (prerequisiteRoles (kindNumbered (w .policy) k))) t (of-all (active rows u) (prerequisiteRoles (kindNumbered (w .policy) k)) h)
 of-holds w rows u (fact f) t h = t
@@ -102,7 +102,7 @@ rests-on-active w rows r t q m =
     holds-roles w rows (r .user) (meant (h .0)) (all-of (λ (c : ℕ). holds w rows (r .user) (meant c)) (ownConditions (w .policy) r) t (h .0) (h .1)) q (h .2)
 
 -- what is supported stays so, where what reads no rows still holds and the roles on which it rests are still active
-supported-moves : (w₁ w₂ : World) (xs ys : List Row) (r : Row) → w₁ .policy ≡ w₂ .policy → ((c : Condition) → T (rest w₁ (r .user) c) → T (rest w₂ (r .user) c))
+supported-moves : (w₁ w₂ : World) (xs ys : List Row) (r : Row) → w₁ .policy ≡ w₂ .policy → ((c : Condition) → T (rowless w₁ (r .user) c) → T (rowless w₂ (r .user) c))
     → ((q : ℕ) → List·Memᴰ q (restsOn (w₁ .policy) r) → T (active xs (r .user) q) → T (active ys (r .user) q)) → T (supported w₁ xs r) → T (supported w₂ ys r)
 unfolding supported restsOn
 supported-moves w₁ w₂ xs ys r same f g t =
@@ -114,7 +114,7 @@ supported-moves w₁ w₂ xs ys r same f g t =
     one : (c : ℕ) → List·Memᴰ c (ownConditions (w₁ .policy) r) → T (holds w₂ ys (r .user) (meant c))
     one c m =
         let h : T (holds w₁ xs (r .user) (meant c)) = all-of (λ (d : ℕ). holds w₁ xs (r .user) (meant d)) (ownConditions (w₁ .policy) r) t c m in
-        of-holds w₂ ys (r .user) (meant c) (f (meant c) (holds-rest w₁ xs (r .user) (meant c) h))
+        of-holds w₂ ys (r .user) (meant c) (f (meant c) (holds-rowless w₁ xs (r .user) (meant c) h))
         (λ q k.
         let k₁ : List·Memᴰ q (rolesAsked (w₁ .policy) (meant c)) = subst⁻¹ (λ (p : Policy). List·Memᴰ q (rolesAsked p (meant c))) same k in
         g q (rests c m q k₁) (holds-roles w₁ xs (r .user) (meant c) h q k₁))
@@ -196,10 +196,10 @@ pub record Less (few many : State) : Type 0 where
   pub facts : (f : ℕ) → T (eqb (getD (few .facts) f 0) 1) → T (eqb (getD (many .facts) f 0) 1)
 
 pub less-supports : (p : Policy) (few many : State) → Less few many → Stricter (supported (worldOf p few)) (supported (worldOf p many))
-unfolding rest someStands
+unfolding rowless someStands
 less-supports p few many l xs r t = supported-moves (worldOf p few) (worldOf p many) xs xs r refl reads (λ q m h. h) t
   where
-    reads : (c : Condition) → T (rest (worldOf p few) (r .user) c) → T (rest (worldOf p many) (r .user) c)
+    reads : (c : Condition) → T (rowless (worldOf p few) (r .user) c) → T (rowless (worldOf p many) (r .user) c)
     reads (role q) h = tt
     reads (kind k) h = any-map (standsFor (r .user) k) (standsFor (r .user) k) (few .certificates) (many .certificates) (λ c m v. (l .certificates c m, v)) h
     reads (fact f) h = l .facts f h

@@ -158,15 +158,15 @@ module _ {A : Type 0} where
   at-place (x ∷ xs) zero d h = List·Memᴰ·head refl
   at-place (x ∷ xs) (suc i) d h = List·Memᴰ·tail (at-place xs i d (omega arith))
 
+  -- and one of the first n, where the place is one of theirs
+  pub among-first : (xs : List A) (n i : ℕ) (d : A) → i < n → i < length xs → List·Memᴰ (getD xs i d) (take n xs)
+  among-first xs n i d h k = subst (λ (x : A). List·Memᴰ x (take n xs)) (getD-take n xs i d h) (at-place (take n xs) i d (simp length-take (omega arith)))
+
   -- a list of one value has it at every place, and past the end by default
   pub repeated : (a : A) (n i : ℕ) → getD (replicate n a) i a ≡ a
   repeated a zero i = refl
   repeated a (suc n) zero = refl
   repeated a (suc n) (suc i) = repeated a n i
-
-  -- and one of the first n, where the place is one of theirs
-  pub among-first : (xs : List A) (n i : ℕ) (d : A) → i < n → i < length xs → List·Memᴰ (getD xs i d) (take n xs)
-  among-first xs n i d h k = subst (λ (x : A). List·Memᴰ x (take n xs)) (getD-take n xs i d h) (at-place (take n xs) i d (simp length-take (omega arith)))
 
   -- the first place that passes, where some place does
   pub first-place : (test : A → Bool) (xs : List A) (d : A) → T (any test xs)

@@ -1,4 +1,4 @@
--- Where the numbers stand. No other file knows a place. "Numbers and tables", the rows of the tables and of the state.
+-- Where the numbers stand. No other definition of the model knows a place. "Numbers and tables", the rows of the tables and of the state.
 use Prim.Native.Nat.{ℕ, _+_, _*_, _/_}
 use mathlib.Core.List.{List, [], _∷_, _++_, map}
 use lib.ListN.{length, getD, take, drop}
@@ -67,9 +67,11 @@ rowNumbers s = take (mostRows * rowWidth) (drop rowsAt s)
 abbrev pub certificateNumbers : List ℕ → List ℕ
 certificateNumbers s = take (mostCertificates * certificateWidth) (drop certificatesAt s)
 
+-- "active rows (user, role, rule)"
 abbrev pub rowFrom : List ℕ → Row
 rowFrom row = record { user = number row 0; role = number row 1; rule = number row 2 }
 
+-- "certificate rows (appointee, kind, appointer)"
 abbrev pub certificateFrom : List ℕ → Certificate
 certificateFrom row = record { appointee = number row 0; kind = number row 1; appointer = number row 2 }
 

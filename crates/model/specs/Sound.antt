@@ -15,7 +15,7 @@ use Rattle.model.specs.declared.Right.{Right}
 use Rattle.model.specs.declared.Row.{Row}
 use Rattle.model.specs.declared.Certificate.{Certificate}
 
--- "A length that isn't a whole number of rows, too many rows, or a row not as above makes the policy malformed; any other is sound."
+-- the length is "a whole number of rows"
 abbrev pub isWhole : ℕ → List ℕ → Bool
 isWhole width table = eqb (length table % width) 0
 
@@ -59,6 +59,7 @@ rightClauses r = ltb (r .role) roles ∷ ltb (r .privilege) privileges ∷ []
 abbrev pub rightFits : Right → Bool
 rightFits r = every (rightClauses r)
 
+-- "A length that isn't a whole number of rows, too many rows, or a row not as above makes the policy malformed; any other is sound."
 unfoldable pub policyClauses : Tables → List Bool
 policyClauses t =
     isWhole ruleWidth (t .rules)

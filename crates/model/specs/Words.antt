@@ -27,7 +27,7 @@ pub record Fits (t : State) : Type 0 where
   pub room-for-rows : length (t .rows) ≤ mostRows
   pub room-for-certificates : length (t .certificates) ≤ mostCertificates
 
--- and is sound
+-- such a value, sound under the policy
 pub record SoundState (p : Policy) (t : State) : Type 0 where
   pub fits : Fits t
   pub values : T (soundValues p t)

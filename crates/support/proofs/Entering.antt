@@ -7,6 +7,7 @@ use mathlib.Core.List.{List, [], _∷_, _++_}
 use native.Mathlib.Omega.{arith}
 use native.Mathlib.Numerals.{add-one}
 use lib.ListN.{getD, set, replicate}
+use Rattle.model.specs.Limits.{roles, mostCertificates}
 use Rattle.model.specs.Values.{World}
 use Rattle.model.specs.Layout.{decode, rowCount, certificateCount, certificatesAt}
 use Rattle.model.specs.Conditions.{active, supported}
@@ -16,12 +17,12 @@ use Rattle.model.specs.declared.Certificate.{Certificate}
 use Rattle.model.proofs.Sweep.{left-last}
 use Rattle.table.specs.Entries.{rowAt, firstRows, certificateAt, firstCertificates}
 use Rattle.table.proofs.Entries.{rows-more, certificate-places}
-use Rattle.index.specs.Marked.{has, supportedBy}
+use Rattle.index.specs.Marked.{ownMarks, has, supportedBy}
 use Rattle.index.specs.Owned.{InRange, Own}
 use Rattle.index.proofs.Owning.{row-in-range, own-none, supported-own, row-own, row-again, kinds-on, kinds-past}
-use Rattle.chains.specs.Chained.{bucket, Link, Begins, GoesOn}
+use Rattle.chains.specs.Chained.{buckets, bucket, Link, Begins, GoesOn}
 use Rattle.chains.proofs.Linking.{passed-user}
-use Rattle.support.specs.Verdicts.{kept, verdictAt}
+use Rattle.support.specs.Verdicts.{kept, stays, falls, twice, verdictAt}
 
 -- ── kinds ──
 
@@ -41,8 +42,8 @@ kinds-skip s own u a (suc d) others x =
     subst (λ (n : ℕ). Own u own [] (firstCertificates s n)) e
     (kinds-past s own u (a + d) [] (certificateAt s (a + d)) refl (kinds-skip s own u a d (λ h after before. others h after (omega arith)) x) (others (a + d) (omega arith) (omega arith)))
 
-module _ (s : List ℕ) (few : certificateCount s ≤ 256) (u : ℕ) where
-  pub entering-none : (own : List Bool) (heads : List ℕ) (b k : ℕ) → own ≡ replicate 384 false → Begins s certificatesAt (certificateCount s) 0 heads → b ≡ bucket u → b < 512 → k ≡ getD heads b 0 → Entering s u own k
+module _ (s : List ℕ) (few : certificateCount s ≤ mostCertificates) (u : ℕ) where
+  pub entering-none : (own : List Bool) (heads : List ℕ) (b k : ℕ) → own ≡ replicate ownMarks false → Begins s certificatesAt (certificateCount s) 0 heads → b ≡ bucket u → b < buckets → k ≡ getD heads b 0 → Entering s u own k
   unfolding firstCertificates
   entering-none own heads b k e x same small d =
       record {
@@ -98,9 +99,9 @@ module _ (w : World) (s : List ℕ) (k : ℕ) (own : List Bool) (x : Own (rowAt 
   kept-by : (t : Bool) → b ≡ t → cond t (kept w s k ++ (rowAt s k ∷ [])) (kept w s k) ≡ kept w s (k + 1)
   kept-by t q = ap (λ (t : Bool). cond t (kept w s k ++ (rowAt s k ∷ [])) (kept w s k)) (sym q ∙ judged) ∙ sym (kept-more w s k)
 
-  pub row-falls : b ≡ false → (2 ≡ verdictAt w s k) × Own (rowAt s k .user) own (kept w s (k + 1)) (w .certificates)
+  pub row-falls : b ≡ false → (falls ≡ verdictAt w s k) × Own (rowAt s k .user) own (kept w s (k + 1)) (w .certificates)
   row-falls q = (
-    ap (λ (t : Bool). cond t (cond (active (kept w s k) (rowAt s k .user) (rowAt s k .role)) 3 1) 2) (sym q ∙ judged),
+    ap (λ (t : Bool). cond t (cond (active (kept w s k) (rowAt s k .user) (rowAt s k .role)) twice stays) falls) (sym q ∙ judged),
     subst (λ (l : List Row). Own (rowAt s k .user) own l (w .certificates)) (kept-by false q) x,
   )
 
@@ -108,23 +109,23 @@ module _ (w : World) (s : List ℕ) (k : ℕ) (own : List Bool) (x : Own (rowAt 
     role : m ≡ rowAt s k .role
     role = d ∙ ap (λ (y : Row). y .role) e
 
-    pub role-in-range : m < 256
+    pub role-in-range : m < roles
     role-in-range = omega (arith, role, row-in-range s range k there .1)
 
     -- whether the mark says that the user is in the role
     in-role : (t : Bool) → getD own m false ≡ t → active (kept w s k) (rowAt s k .user) (rowAt s k .role) ≡ t
     in-role t h = sym (x .roles-marked (rowAt s k .role) (row-in-range s range k there .1)) ∙ ap (λ (n : ℕ). getD own n false) (sym role) ∙ h
 
-    said : (t : Bool) → b ≡ true → getD own m false ≡ t → cond t 3 1 ≡ verdictAt w s k
-    said t q h = sym (ap (λ (a : Bool). cond a 3 1) (in-role t h)) ∙ ap (λ (a : Bool). cond a (cond (active (kept w s k) (rowAt s k .user) (rowAt s k .role)) 3 1) 2) (sym q ∙ judged)
+    said : (t : Bool) → b ≡ true → getD own m false ≡ t → cond t twice stays ≡ verdictAt w s k
+    said t q h = sym (ap (λ (a : Bool). cond a twice stays) (in-role t h)) ∙ ap (λ (a : Bool). cond a (cond (active (kept w s k) (rowAt s k .user) (rowAt s k .role)) twice stays) falls) (sym q ∙ judged)
 
-    pub row-twice : b ≡ true → getD own m false ≡ true → (3 ≡ verdictAt w s k) × Own (rowAt s k .user) own (kept w s (k + 1)) (w .certificates)
+    pub row-twice : b ≡ true → getD own m false ≡ true → (twice ≡ verdictAt w s k) × Own (rowAt s k .user) own (kept w s (k + 1)) (w .certificates)
     row-twice q h = (
       said true q h,
       subst (λ (l : List Row). Own (rowAt s k .user) own l (w .certificates)) (kept-by true q) (row-again (rowAt s k .user) own (kept w s k) (w .certificates) x (rowAt s k) (in-role true h)),
     )
 
-    pub row-stays : b ≡ true → getD own m false ≡ false → (1 ≡ verdictAt w s k) × Own (rowAt s k .user) (set own m true) (kept w s (k + 1)) (w .certificates)
+    pub row-stays : b ≡ true → getD own m false ≡ false → (stays ≡ verdictAt w s k) × Own (rowAt s k .user) (set own m true) (kept w s (k + 1)) (w .certificates)
     row-stays q h = (
       said false q h,
       subst (λ (l : List Row). Own (rowAt s k .user) (set own m true) l (w .certificates)) (kept-by true q)

@@ -8,6 +8,7 @@ use mathlib.Core.List.{List, [], _∷_, _++_}
 use native.Mathlib.Omega.{arith}
 use lib.ListN.{length, getD, set, replicate, length-set, length-replicate}
 use lib.Seq.{getD-set-same, getD-set-other}
+use Rattle.model.specs.Limits.{mostRows}
 use Rattle.model.specs.Values.{World}
 use Rattle.model.specs.Layout.{decode, rowCount, rowsAt}
 use Rattle.model.specs.Conditions.{active, supported}
@@ -21,7 +22,7 @@ use Rattle.chains.specs.Chained.{userAt, bucket, Link, GoesOn}
 use Rattle.chains.proofs.Linking.{passed-user}
 use Rattle.index.specs.Owned.{InRange, Own}
 use Rattle.index.proofs.Owning.{row-other}
-use Rattle.support.specs.Verdicts.{kept, verdictAt, Right, UserJudged, Judged}
+use Rattle.support.specs.Verdicts.{kept, stays, falls, twice, verdictAt, Correct, UserJudged, Judged}
 use Rattle.support.proofs.Entering.{kept-more}
 
 -- ── rows of other users ──
@@ -50,21 +51,21 @@ own-first w s {own} {certificates} i e others x =
 told : (w : World) (s : List ℕ) (k : ℕ) → 0 < verdictAt w s k
 told w s k = go (supported w (kept w s k) (rowAt s k)) (active (kept w s k) (rowAt s k .user) (rowAt s k .role))
   where
-    go : (a b : Bool) → 0 < cond a (cond b 3 1) 2
+    go : (a b : Bool) → 0 < cond a (cond b twice stays) falls
     go true true = omega arith
     go true false = omega arith
     go false b = omega arith
 
-module _ (w : World) (s verdicts : List ℕ) (k v : ℕ) (right : Right w s verdicts) (within : k < 256) (said : v ≡ verdictAt w s k) where
+module _ (w : World) (s verdicts : List ℕ) (k v : ℕ) (correct : Correct w s verdicts) (within : k < mostRows) (said : v ≡ verdictAt w s k) where
   here : getD (set verdicts k v) k 0 ≡ verdictAt w s k
-  here = getD-set-same verdicts k v 0 (omega (arith, right .size)) ∙ said
+  here = getD-set-same verdicts k v 0 (omega (arith, correct .size)) ∙ said
 
-  right-more : Right w s (set verdicts k v)
-  right-more = record { size = length-set verdicts k v ∙ right .size; said = λ h l m. go h l m (eq-or-ne h k) }
+  correct-more : Correct w s (set verdicts k v)
+  correct-more = record { size = length-set verdicts k v ∙ correct .size; said = λ h l m. go h l m (eq-or-ne h k) }
     where
       go : (h : ℕ) → h < rowCount s → 0 < getD (set verdicts k v) h 0 → (h ≡ k) ⊎ (h ≢ k) → getD (set verdicts k v) h 0 ≡ verdictAt w s h
       go h l m (inl e) = subst⁻¹ (λ (n : ℕ). getD (set verdicts k v) n 0 ≡ verdictAt w s n) e here
-      go h l m (inr e) = let same : getD (set verdicts k v) h 0 ≡ getD verdicts h 0 = getD-set-other verdicts k h v 0 e in same ∙ right .said h l (omega arith)
+      go h l m (inr e) = let same : getD (set verdicts k v) h 0 ≡ getD verdicts h 0 = getD-set-other verdicts k h v 0 e in same ∙ correct .said h l (omega arith)
 
   said-here : (h : ℕ) → h ≡ k → 0 < getD (set verdicts k v) h 0
   said-here h e = subst⁻¹ (λ (n : ℕ). 0 < getD (set verdicts k v) n 0) e (omega (arith, here, told w s k))
@@ -78,7 +79,7 @@ module _ (w : World) (s verdicts : List ℕ) (k v : ℕ) (right : Right w s verd
 
 -- ── along the chain of one user's rows ──
 
-user-at : (s : List ℕ) (h : ℕ) → h < 256 → userAt s rowsAt h ≡ rowAt s h .user
+user-at : (s : List ℕ) (h : ℕ) → h < mostRows → userAt s rowsAt h ≡ rowAt s h .user
 user-at s h l = sym (ap (λ (r : Row). r .user) (row-places s h l))
 
 -- the rows before `upto` are judged as far as they are the user's, and k is the next that may be
@@ -86,14 +87,14 @@ pub record Walked (w : World) (s : List ℕ) (u i : ℕ) (before : List ℕ) (ow
   pub upto : ℕ
   pub link : Link s rowsAt (rowCount s) (bucket u) upto k
   pub marks : Own u own (kept w s upto) (decode s .certificates)
-  pub right : Right w s verdicts
+  pub correct : Correct w s verdicts
   pub still : (h : ℕ) → 0 < getD before h 0 → 0 < getD verdicts h 0
   pub all-rows : (h : ℕ) → i ≤ h → h < upto → rowAt s h .user ≡ u → 0 < getD verdicts h 0
   pub others : (h : ℕ) → rowAt s h .user ≢ u → getD verdicts h 0 ≡ getD before h 0
 
 pub walk-starts : {w : World} {s : List ℕ} {i : ℕ} {own : List Bool} {verdicts : List ℕ} {r : Row} → InRange s → i < rowCount s → r ≡ rowAt s i
-    → Own (rowAt s i .user) own (kept w s i) (decode s .certificates) → Right w s verdicts → Walked w s (r .user) i verdicts own verdicts i
-walk-starts {w} {s} {i} {own} range l e marks right =
+    → Own (rowAt s i .user) own (kept w s i) (decode s .certificates) → Correct w s verdicts → Walked w s (r .user) i verdicts own verdicts i
+walk-starts {w} {s} {i} {own} range l e marks correct =
     record {
       upto = i;
       link = record {
@@ -103,7 +104,7 @@ walk-starts {w} {s} {i} {own} range l e marks right =
         first = λ h m n b. m;
       };
       marks = subst⁻¹ (λ (d : Row). Own (d .user) own (kept w s i) (decode s .certificates)) e marks;
-      right = right;
+      correct = correct;
       still = λ h m. m;
       all-rows = λ h m n p. absurd (omega arith);
       others = λ h n. refl;
@@ -123,7 +124,7 @@ module _ {w : World} {s : List ℕ} {u i : ℕ} {before : List ℕ} {own : List 
   pub walk-ends : rowCount s ≤ k → u ≡ rowAt s i .user → UserJudged w s i before verdicts
   walk-ends end e =
       record {
-        right = x .right;
+        correct = x .correct;
         still = x .still;
         all-rows = λ h l m p. judged h l (omega arith) m (p ∙ sym e);
         others = λ h n. x .others h (λ p. n (p ∙ e));
@@ -152,7 +153,7 @@ module _ {w : World} {s : List ℕ} {u i : ℕ} {before : List ℕ} {own : List 
               upto = k + 1;
               link = link-on;
               marks = rows-past w s u own (decode s .certificates) k (λ q. other (sym user-same ∙ q)) reached;
-              right = x .right;
+              correct = x .correct;
               still = x .still;
               all-rows = λ h l m q. go h l m q (eq-or-ne h k);
               others = x .others;
@@ -170,18 +171,18 @@ module _ {w : World} {s : List ℕ} {u i : ℕ} {before : List ℕ} {own : List 
               upto = k + 1;
               link = link-on;
               marks = subst (λ (n : ℕ). Own n own′ (kept w s (k + 1)) (decode s .certificates)) (user-same ∙ mine) marks;
-              right = right-more w s verdicts k v (x .right) few said;
-              still = λ h m. said-still w s verdicts k v (x .right) few said h (x .still h m);
+              correct = correct-more w s verdicts k v (x .correct) few said;
+              still = λ h m. said-still w s verdicts k v (x .correct) few said h (x .still h m);
               all-rows = λ h l m q. go h l m q (eq-or-ne h k);
               others = λ h n. getD-set-other verdicts k h v 0 (λ p. n (subst⁻¹ (λ (n : ℕ). rowAt s n .user ≡ u) p (user-same ∙ mine))) ∙ x .others h n;
             }
           where
-            few : k < 256
+            few : k < mostRows
             few = omega (arith, range .sized .rows)
 
             go : (h : ℕ) → i ≤ h → h < k + 1 → rowAt s h .user ≡ u → (h ≡ k) ⊎ (h ≢ k) → 0 < getD (set verdicts k v) h 0
-            go h l m q (inl p) = said-here w s verdicts k v (x .right) few said h p
-            go h l m q (inr p) = let a : h < k = omega (arith, p) in said-still w s verdicts k v (x .right) few said h (judged h l a (omega arith) q)
+            go h l m q (inl p) = said-here w s verdicts k v (x .correct) few said h p
+            go h l m q (inr p) = let a : h < k = omega (arith, p) in said-still w s verdicts k v (x .correct) few said h (judged h l a (omega arith) q)
 
 -- what is read is what the walk is at
 pub walk-read : {w : World} {s : List ℕ} {u i : ℕ} {before : List ℕ} {own own′ : List Bool} {verdicts verdicts′ : List ℕ} {k k′ : ℕ}
@@ -194,35 +195,35 @@ walk-read {w} {s} {u} {i} {before} {own} {own′} {verdicts} {verdicts′} {k} {
 -- ── user after user ──
 
 -- the rows before i are judged, and of a user's rows either all or none
-pub record Served (w : World) (s : List ℕ) (i : ℕ) (verdicts : List ℕ) : Type 0 where
+pub record JudgedBefore (w : World) (s : List ℕ) (i : ℕ) (verdicts : List ℕ) : Type 0 where
   pub within : i ≤ rowCount s
-  pub right : Right w s verdicts
+  pub correct : Correct w s verdicts
   pub before : (h : ℕ) → h < i → 0 < getD verdicts h 0
   pub alike : (h k : ℕ) → h < rowCount s → k < rowCount s → rowAt s h .user ≡ rowAt s k .user → 0 < getD verdicts h 0 → 0 < getD verdicts k 0
 
-pub none-served : {w : World} {s verdicts : List ℕ} → verdicts ≡ replicate 256 0 → Served w s 0 verdicts
-none-served {w} {s} {verdicts} e =
+pub judged-none : {w : World} {s verdicts : List ℕ} → verdicts ≡ replicate mostRows 0 → JudgedBefore w s 0 verdicts
+judged-none {w} {s} {verdicts} e =
     record {
       within = omega arith;
-      right = record { size = ap length e ∙ length-replicate {A = ℕ} 256 0; said = λ k l m. absurd (none k m) };
+      correct = record { size = ap length e ∙ length-replicate {A = ℕ} mostRows 0; said = λ k l m. absurd (none k m) };
       before = λ h l. absurd (omega arith);
       alike = λ h k l m p q. absurd (none h q);
     }
   where
     none : (k : ℕ) → 0 < getD verdicts k 0 → ⊥
-    none k m = omega (arith, ap (λ (l : List ℕ). getD l k 0) e ∙ repeated 0 256 k)
+    none k m = omega (arith, ap (λ (l : List ℕ). getD l k 0) e ∙ repeated 0 mostRows k)
 
-module _ {w : World} {s verdicts : List ℕ} {i : ℕ} (x : Served w s i verdicts) where
-  pub all-served : rowCount s ≤ i → Judged w s verdicts
-  all-served end = record { size = x .right .size; said = λ k l. x .right .said k l (x .before k (omega arith)) }
+module _ {w : World} {s verdicts : List ℕ} {i : ℕ} (x : JudgedBefore w s i verdicts) where
+  pub judged-all : rowCount s ≤ i → Judged w s verdicts
+  judged-all end = record { size = x .correct .size; said = λ k l. x .correct .said k l (x .before k (omega arith)) }
 
   module _ (l : i < rowCount s) where
     -- where row i is not judged, none of its user's is
     pub user-new : getD verdicts i 0 ≡ 0 → (h : ℕ) → h < i → rowAt s h .user ≢ rowAt s i .user
     user-new e h m p = omega (arith, x .alike h i (omega arith) l p (x .before h m))
 
-    pub served-already : getD verdicts i 0 ≢ 0 → Served w s (i + 1) verdicts
-    served-already n = record { within = omega arith; right = x .right; before = λ h m. go h m (eq-or-ne h i); alike = x .alike }
+    pub judged-already : getD verdicts i 0 ≢ 0 → JudgedBefore w s (i + 1) verdicts
+    judged-already n = record { within = omega arith; correct = x .correct; before = λ h m. go h m (eq-or-ne h i); alike = x .alike }
       where
         some : 0 < getD verdicts i 0
         some = omega (arith, n)
@@ -231,8 +232,8 @@ module _ {w : World} {s verdicts : List ℕ} {i : ℕ} (x : Served w s i verdict
         go h m (inl e) = subst⁻¹ (λ (n : ℕ). 0 < getD verdicts n 0) e some
         go h m (inr e) = let a : h < i = omega (arith, e) in x .before h a
 
-    pub served-more : {after : List ℕ} → UserJudged w s i verdicts after → Served w s (i + 1) after
-    served-more {after} y = record { within = omega arith; right = y .right; before = λ h m. go h m (eq-or-ne h i); alike = λ h k m n e. same h k n e (eq-or-ne (rowAt s h .user) (rowAt s i .user)) m }
+    pub judged-more : {after : List ℕ} → UserJudged w s i verdicts after → JudgedBefore w s (i + 1) after
+    judged-more {after} y = record { within = omega arith; correct = y .correct; before = λ h m. go h m (eq-or-ne h i); alike = λ h k m n e. same h k n e (eq-or-ne (rowAt s h .user) (rowAt s i .user)) m }
       where
         go : (h : ℕ) → h < i + 1 → (h ≡ i) ⊎ (h ≢ i) → 0 < getD after h 0
         go h m (inl e) = subst⁻¹ (λ (n : ℕ). 0 < getD after n 0) e (y .all-rows i (omega arith) l refl)

@@ -6,13 +6,17 @@ ghost use mathlib.Core.Bool.{false};
 ghost use mathlib.Core.List.{[]};
 ghost use Prim.Native.Nat.{ℕ, _+_, _<_};
 ghost use lib.ListN.{replicate};
+ghost use Rattle.model.specs.Limits.{mostRows};
 ghost use Rattle.model.specs.Layout.{decode, rowCount, certificateCount, rowsAt, certificatesAt};
 ghost use Rattle.table.specs.Entries.{rowAt, worldAt};
+ghost use Rattle.index.specs.Marked.{ownMarks};
 ghost use Rattle.index.specs.Owned.{InRange, Own};
 ghost use Rattle.chains.specs.Chained.{Begins, GoesOn};
-ghost use Rattle.support.specs.Verdicts.{kept, verdictAt, Right, UserJudged, Judged};
+ghost use Rattle.support.specs.Verdicts.{kept, verdictAt, Correct, UserJudged, Judged};
 use model::CERTIFICATE_COUNT_AT;
 use model::CERTIFICATES_AT;
+use model::MOST_CERTIFICATES;
+use model::MOST_ROWS;
 use model::ROW_COUNT_AT;
 use model::ROWS_AT;
 
@@ -26,7 +30,7 @@ pub const TWICE: u8 = 3;
 
 // The kinds that stand for the user are marked, along the chain of the user's certificates.
 fn enter_kinds(state: &[u16], heads: &[u16], next: &[u16], user: u16, own: &mut [bool])
-    requires { ⌜ InRange (now state) × Begins (now state) certificatesAt (certificateCount (now state)) 0 (now heads) × GoesOn (now state) certificatesAt (certificateCount (now state)) 0 (now next) × (now own ≡ replicate 384 false) ⌝ }
+    requires { ⌜ InRange (now state) × Begins (now state) certificatesAt (certificateCount (now state)) 0 (now heads) × GoesOn (now state) certificatesAt (certificateCount (now state)) 0 (now next) × (now own ≡ replicate ownMarks false) ⌝ }
     ensures { λ r. ⌜ Own user (now (own .exit)) [] (decode (now (state .entry)) .certificates) ⌝ }
 {
     let n = table::wide(state[CERTIFICATE_COUNT_AT]);
@@ -35,7 +39,7 @@ fn enter_kinds(state: &[u16], heads: &[u16], next: &[u16], user: u16, own: &mut 
         let certificate = table::certificate_at(state, k);
         k = table::wide(next[k]);
         if certificate.appointee == user {
-            own[index::KINDS + table::wide(certificate.kind)] = true;
+            own[index::KINDS_AT + table::wide(certificate.kind)] = true;
         }
     }
 }
@@ -68,7 +72,7 @@ fn judge_user(
     i: usize,
     verdicts: &mut [u8],
 )
-    requires { ⌜ InRange (now state) × (i < rowCount (now state)) × GoesOn (now state) rowsAt (rowCount (now state)) 0 (now next) × Own (rowAt (now state) i .user) (now own) (kept (worldAt (now rules) (now kinds) (now state)) (now state) i) (decode (now state) .certificates) × Right (worldAt (now rules) (now kinds) (now state)) (now state) (now verdicts) ⌝ }
+    requires { ⌜ InRange (now state) × (i < rowCount (now state)) × GoesOn (now state) rowsAt (rowCount (now state)) 0 (now next) × Own (rowAt (now state) i .user) (now own) (kept (worldAt (now rules) (now kinds) (now state)) (now state) i) (decode (now state) .certificates) × Correct (worldAt (now rules) (now kinds) (now state)) (now state) (now verdicts) ⌝ }
     ensures { λ r. ⌜ UserJudged (worldAt (now (rules .entry)) (now (kinds .entry)) (now (state .entry))) (now (state .entry)) i (now (verdicts .entry)) (now (verdicts .exit)) ⌝ }
 {
     let n = table::wide(state[ROW_COUNT_AT]);
@@ -84,8 +88,9 @@ fn judge_user(
     }
 }
 
-// The same for row i, before which its user has none, by marks of its own.
-fn judge_own(
+// The same where row i is the first of its user's: no role is marked yet, and the kinds that stand for the user are marked here. `next`
+// chains the rows, `heads` and `after` chain the certificates.
+fn judge_from_first(
     rules: &[u16],
     kinds: &[u16],
     state: &[u16],
@@ -95,15 +100,16 @@ fn judge_own(
     i: usize,
     verdicts: &mut [u8],
 )
-    requires { ⌜ InRange (now state) × (i < rowCount (now state)) × GoesOn (now state) rowsAt (rowCount (now state)) 0 (now next) × Begins (now state) certificatesAt (certificateCount (now state)) 0 (now heads) × GoesOn (now state) certificatesAt (certificateCount (now state)) 0 (now after) × ((h : ℕ) → h < i → rowAt (now state) h .user ≢ rowAt (now state) i .user) × Right (worldAt (now rules) (now kinds) (now state)) (now state) (now verdicts) ⌝ }
+    requires { ⌜ InRange (now state) × (i < rowCount (now state)) × GoesOn (now state) rowsAt (rowCount (now state)) 0 (now next) × Begins (now state) certificatesAt (certificateCount (now state)) 0 (now heads) × GoesOn (now state) certificatesAt (certificateCount (now state)) 0 (now after) × ((h : ℕ) → h < i → rowAt (now state) h .user ≢ rowAt (now state) i .user) × Correct (worldAt (now rules) (now kinds) (now state)) (now state) (now verdicts) ⌝ }
     ensures { λ r. ⌜ UserJudged (worldAt (now (rules .entry)) (now (kinds .entry)) (now (state .entry))) (now (state .entry)) i (now (verdicts .entry)) (now (verdicts .exit)) ⌝ }
 {
     let row = table::row_at(state, i);
-    let mut own = [false; 384];
+    let mut own = [false; index::OWN_MARKS];
     enter_kinds(state, heads, after, row.user, &mut own);
     judge_user(rules, kinds, state, next, &mut own, i, verdicts);
 }
 
+// User after user: where a row is not judged yet, it is the first of its user's, and all of them are judged.
 fn judge_each(
     rules: &[u16],
     kinds: &[u16],
@@ -113,14 +119,14 @@ fn judge_each(
     after: &[u16],
     verdicts: &mut [u8],
 )
-    requires { ⌜ InRange (now state) × GoesOn (now state) rowsAt (rowCount (now state)) 0 (now next) × Begins (now state) certificatesAt (certificateCount (now state)) 0 (now heads) × GoesOn (now state) certificatesAt (certificateCount (now state)) 0 (now after) × (now verdicts ≡ replicate 256 0) ⌝ }
+    requires { ⌜ InRange (now state) × GoesOn (now state) rowsAt (rowCount (now state)) 0 (now next) × Begins (now state) certificatesAt (certificateCount (now state)) 0 (now heads) × GoesOn (now state) certificatesAt (certificateCount (now state)) 0 (now after) × (now verdicts ≡ replicate mostRows 0) ⌝ }
     ensures { λ r. ⌜ Judged (worldAt (now (rules .entry)) (now (kinds .entry)) (now (state .entry))) (now (state .entry)) (now (verdicts .exit)) ⌝ }
 {
     let n = table::wide(state[ROW_COUNT_AT]);
     let mut i: usize = 0;
     while i < n {
         if verdicts[i] == 0 {
-            judge_own(rules, kinds, state, next, heads, after, i, verdicts);
+            judge_from_first(rules, kinds, state, next, heads, after, i, verdicts);
         }
         i += 1;
     }
@@ -128,15 +134,16 @@ fn judge_each(
 
 // Says of each row whether it stays: `verdicts` is zero before.
 pub fn judge_rows(rules: &[u16], kinds: &[u16], state: &[u16], verdicts: &mut [u8])
-    requires { ⌜ InRange (now state) × (now verdicts ≡ replicate 256 0) ⌝ }
+    requires { ⌜ InRange (now state) × (now verdicts ≡ replicate mostRows 0) ⌝ }
     ensures { λ r. ⌜ Judged (worldAt (now (rules .entry)) (now (kinds .entry)) (now (state .entry))) (now (state .entry)) (now (verdicts .exit)) ⌝ }
 {
-    let mut first = [256u16; 512];
-    let mut next = [256u16; 256];
+    // Where a chain of rows begins is not asked: a user is judged from the row that is met.
+    let mut first = [chains::NO_ENTRY; chains::BUCKETS];
+    let mut next = [chains::NO_ENTRY; MOST_ROWS];
     let n = table::wide(state[ROW_COUNT_AT]);
     chains::chain(state, ROWS_AT, n, &mut first, &mut next);
-    let mut heads = [256u16; 512];
-    let mut after = [256u16; 256];
+    let mut heads = [chains::NO_ENTRY; chains::BUCKETS];
+    let mut after = [chains::NO_ENTRY; MOST_CERTIFICATES];
     let m = table::wide(state[CERTIFICATE_COUNT_AT]);
     chains::chain(state, CERTIFICATES_AT, m, &mut heads, &mut after);
     judge_each(rules, kinds, state, &next, &heads, &after, verdicts);

@@ -3,7 +3,7 @@ ghost use mathlib.Core.List.{[]};
 ghost use mathlib.Core.Path.{_≡_};
 ghost use Prim.Native.Nat.{_/_, _<_, _≤_, min};
 ghost use lib.ListN.{length};
-ghost use Rattle.model.specs.Limits.{stateSize, mostRows, mostCertificates};
+ghost use Rattle.model.specs.Limits.{ruleWidth, kindWidth, rightWidth, stateSize, mostRows, mostCertificates};
 ghost use Rattle.model.specs.Layout.{policyOf};
 ghost use Rattle.model.specs.Conditions.{isRow, active, kindNumbered, ruleNumbered};
 ghost use Rattle.model.specs.Sound.{sameCertificate};
@@ -36,7 +36,7 @@ pub fn least(a: usize, b: usize) -> usize
 
 // The rule of a number that has a row.
 pub fn rule_at(rules: &[u16], i: usize) -> Rule
-    requires { ⌜ i < length (now rules) / 11 ⌝ }
+    requires { ⌜ i < length (now rules) / ruleWidth ⌝ }
     ensures { λ r. ⌜ r ≡ ruleAt (now (rules .entry)) i ⌝ }
 {
     let b = i * RULE_WIDTH;
@@ -59,7 +59,7 @@ pub fn rule_at(rules: &[u16], i: usize) -> Rule
 
 // The kind of a number that has a row.
 pub fn kind_at(kinds: &[u16], k: usize) -> Kind
-    requires { ⌜ k < length (now kinds) / 7 ⌝ }
+    requires { ⌜ k < length (now kinds) / kindWidth ⌝ }
     ensures { λ r. ⌜ r ≡ kindAt (now (kinds .entry)) k ⌝ }
 {
     let b = k * KIND_WIDTH;
@@ -73,7 +73,7 @@ pub fn kind_at(kinds: &[u16], k: usize) -> Kind
 
 // The right in a row that there is.
 pub fn right_at(rights: &[u16], i: usize) -> Right
-    requires { ⌜ i < length (now rights) / 2 ⌝ }
+    requires { ⌜ i < length (now rights) / rightWidth ⌝ }
     ensures { λ r. ⌜ r ≡ rightAt (now (rights .entry)) i ⌝ }
 {
     let b = i * RIGHT_WIDTH;

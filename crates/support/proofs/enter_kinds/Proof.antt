@@ -7,6 +7,7 @@ use borrow.Author.Needs.{needs}
 use lib.ListN.{length, length-replicate}
 use Rattle.model.specs.Layout.{certificateCount}
 use Rattle.model.specs.declared.Certificate.{Certificate}
+use Rattle.index.specs.Marked.{ownMarks}
 use Rattle.index.proofs.Owning.{certificate-in-range}
 use Rattle.support.proofs.Entering.{Entering, entering-none, entering-all, further, entering-own, entering-other}
 use Rattle.support.proofs.enter_kinds.Statement.{statement}
@@ -73,7 +74,7 @@ loop-again-2 : tie.Need-loop-again-2 Inv-loop μ-loop
 loop-again-2 c = entering-other (c .before .before .before .before .before .before .before .before .before .before .before .before .before .before .before .before .args .state .now) (c .before .before .before .before .before .before .before .before .before .before .before .before .before .before .before .before .pre .0 .sized .certificates) (c .before .before .before .before .before .before .before .before .before .before .before .before .before .before .before .before .args .user) (c .before .before .before .before .before .before .loop .own) (c .before .before .before .before .before .before .loop .k) (c .before .before .before .before .before .before .loop .inv) (omega (arith, c .before .before .before .before .before .before .before .before .before .before .wide .ensures)) (c .before .before .before .before .before .before .before .before .before .before .before .before .before .before .before .before .args .next .now) (c .before .before .before .before .before .before .before .before .before .before .before .before .before .before .before .before .pre .2) (c .before .before .wide3 .result) (c .before .before .wide3 .ensures) (c .before .before .before .before .certificate-at .result) (c .before .before .before .before .certificate-at .ensures) (c .if1 .left)
 
 same-length : tie.Need-same-length Inv-loop μ-loop
-same-length c = c .before .loop .inv .marked .size ∙ sym (length-replicate 384 false) ∙ ap length (sym (c .before .before .before .before .before .before .before .before .before .before .before .pre .3))
+same-length c = c .before .loop .inv .marked .size ∙ sym (length-replicate ownMarks false) ∙ ap length (sym (c .before .before .before .before .before .before .before .before .before .before .before .pre .3))
 
 returns : tie.Need-returns Inv-loop μ-loop
 returns c = entering-all (c .before .before .before .before .before .before .before .before .before .before .before .args .state .now) (c .before .before .before .before .before .before .before .before .before .before .before .pre .0 .sized .certificates) (c .before .before .before .before .before .before .before .before .before .before .before .args .user) (c .before .loop .own) (c .before .loop .k) (c .before .loop .inv) (omega (arith, c .before .before .before .before .before .wide .ensures))

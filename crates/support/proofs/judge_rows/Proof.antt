@@ -2,6 +2,7 @@ use Prim.Native.Nat.{ℕ}
 use mathlib.Core.Path.{refl, sym, ap, _∙_}
 use native.Mathlib.Omega.{arith}
 use lib.ListN.{length, length-replicate}
+use Rattle.model.specs.Limits.{mostRows}
 use borrow.Author.Needs.{needs}
 use Rattle.support.proofs.judge_rows.Statement.{statement}
 use Rattle.support.proofs.judge_rows.Tie as tie
@@ -55,7 +56,7 @@ judge-each-requires c κs = (
 )
 
 same-length : tie.Need-same-length
-same-length c = c .before .before .judge-each .ensures .size ∙ sym (ap length (c .before .before .before .before .before .before .before .before .before .before .before .before .before .before .before .before .before .before .before .before .before .before .before .before .before .pre .1) ∙ length-replicate {A = ℕ} 256 0)
+same-length c = c .before .before .judge-each .ensures .size ∙ sym (ap length (c .before .before .before .before .before .before .before .before .before .before .before .before .before .before .before .before .before .before .before .before .before .before .before .before .before .pre .1) ∙ length-replicate {A = ℕ} mostRows 0)
 
 returns : tie.Need-returns
 returns c = c .before .before .judge-each .ensures

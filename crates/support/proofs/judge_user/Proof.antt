@@ -36,7 +36,7 @@ judge-row-requires : tie.Need-judge-row-requires Inv-loop μ-loop
 judge-row-requires c κs = let l : c .before .before .before .before .before .loop .k < rowCount (c .before .before .before .before .before .before .before .before .before .before .before .before .before .before .before .args .state .now) = omega (arith, c .before .before .before .before .before .before .before .wide .ensures) in (c .before .before .before .before .before .before .before .before .before .before .before .before .before .before .before .pre .0, l, marks-reach (c .before .before .before .before .before .before .before .before .before .before .before .before .before .before .before .pre .0) (c .before .before .before .before .before .loop .inv) l (c .before .before .before .row-at2 .ensures) (c .before .if1 .taken))
 
 slice-write-verdicts : tie.Need-slice-write-verdicts Inv-loop μ-loop
-slice-write-verdicts c = omega (arith, c .before .before .before .before .before .before .before .before .before .before .wide .ensures, c .before .before .before .before .before .before .before .before .before .before .before .before .before .before .before .before .before .before .pre .0 .sized .rows, c .before .before .before .before .before .before .before .before .loop .inv .right .size)
+slice-write-verdicts c = omega (arith, c .before .before .before .before .before .before .before .before .before .before .wide .ensures, c .before .before .before .before .before .before .before .before .before .before .before .before .before .before .before .before .before .before .pre .0 .sized .rows, c .before .before .before .before .before .before .before .before .loop .inv .correct .size)
 
 mul-wide : tie.Need-mul-wide Inv-loop μ-loop
 mul-wide c = search needs
@@ -61,7 +61,7 @@ same-length : tie.Need-same-length Inv-loop μ-loop
 same-length c = c .before .loop .inv .marks .size ∙ sym (c .before .before .before .before .before .before .before .before .before .before .before .pre .3 .size)
 
 same-length-2 : tie.Need-same-length-2 Inv-loop μ-loop
-same-length-2 c = c .before .loop .inv .right .size ∙ sym (c .before .before .before .before .before .before .before .before .before .before .before .pre .4 .size)
+same-length-2 c = c .before .loop .inv .correct .size ∙ sym (c .before .before .before .before .before .before .before .before .before .before .before .pre .4 .size)
 
 returns : tie.Need-returns Inv-loop μ-loop
 returns c = walk-ends (c .before .before .before .before .before .before .before .before .before .before .before .pre .0) (c .before .loop .inv) (omega (arith, c .before .before .before .wide .ensures)) (ap (λ (r : Row). r .user) (c .before .before .row-at .ensures))
