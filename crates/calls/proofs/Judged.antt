@@ -1,6 +1,6 @@
 -- Judged first: an unsound table is a refusal of every call, and what is left are sound tables.
 use Prim.Native.Nat.{ℕ, _/_, _≤_}
-use mathlib.Core.Path.{_≡_, refl, sym, ap, _∙_, subst⁻¹}
+use mathlib.Core.Path.{_≡_, sym, ap, _∙_, subst⁻¹}
 use mathlib.Core.Bool.{Bool, true, false, not, cond}
 use mathlib.Core.Logic.{_≢_}
 use mathlib.Core.List.{List, [], _∷_}
@@ -27,10 +27,10 @@ first-judged true true rs n z e = absurd (z e)
 first-judged true false rs n z e = subst⁻¹ (λ (k : ℕ). FirstApplies (record { applies = false; code = 1 } ∷ record { applies = true; code = 2 } ∷ rs) k) e (later tt (here tt))
 first-judged false b rs n z e = subst⁻¹ (λ (k : ℕ). FirstApplies (record { applies = true; code = 1 } ∷ record { applies = not b; code = 2 } ∷ rs) k) e (here tt)
 
-pub unsound : (t : Tables) (s list : List ℕ) (c : Call) (course : Course) → courseOf t s list c ≡ judgedFirst t s course → (r : Answer) → r .second ≡ 0 → r .code ≢ 0 → r .code ≡ judgement t s → AnswersWith t s list c r s list
+pub unsound : (t : Tables) (s list : List ℕ) (c : Call) (course : Course) → courseOf t s list c ≡ judgedFirst t s course → (r : Answer) (code : ℕ) → (r .code ≡ code) × (r .second ≡ 0) → code ≢ 0 → code ≡ judgement t s → AnswersWith t s list c r s list
 unfolding judgement judgedFirst
-unsound t s list c course is r z n e =
-    refuses t s list c r (r .code) n (refl, z) (subst⁻¹ (λ (x : Course). FirstApplies (x .refusals) (r .code)) is (first-judged (soundPolicy t) (sound (policyOf t) s) (course .refusals) (r .code) n e))
+unsound t s list c course is r code z n e =
+    refuses t s list c r code n z (subst⁻¹ (λ (x : Course). FirstApplies (x .refusals) code) is (first-judged (soundPolicy t) (sound (policyOf t) s) (course .refusals) code n e))
 
 both : (a b : Bool) → 0 ≡ firstCode (record { applies = not a; code = 1 } ∷ record { applies = not b; code = 2 } ∷ []) → T a × T b
 both true true e = (tt, tt)
@@ -54,13 +54,13 @@ pub all-sound : (t : Tables) (s : List ℕ) → soundPolicy t ≡ true → sound
 unfolding judgement
 all-sound t s e f = sym (λ i. cond (not (e i)) 1 (cond (not (f i)) 2 0))
 
--- ── fresh ──
-
-pub fresh-length : (s : List ℕ) (r : Answer) → r .code ≡ 2 → r .second ≡ 0 → length s ≢ 1602 → Answers (lent [] [] []) s fresh r s
-unfolding courseOf freshOn
-fresh-length s r a b n = refuses (lent [] [] []) s [] fresh r 2 (omega arith) (a, b) (here (of-false (eqb (length s) 1602) (ne-eqb (length s) 1602 n)))
-
 -- a sound policy has at most 128 kinds
 pub sound-kinds : (t : Tables) → soundPolicy t ≡ true → length (t .kinds) / 7 ≤ 128
 unfolding policyClauses policyOf
 sound-kinds t e = omega (arith, leb→le (length (policyOf t .kinds)) 128 (each (policyClauses t) (of-true (soundPolicy t) e) .1 .1 .1 .1 .0), length-entries kindFrom 7 (t .kinds) (length (t .kinds) / 7))
+
+-- ── fresh ──
+
+pub fresh-length : (s : List ℕ) (r : Answer) → (r .code ≡ 2) × (r .second ≡ 0) → length s ≢ 1602 → Answers (lent [] [] []) s fresh r s
+unfolding courseOf freshOn
+fresh-length s r z n = refuses (lent [] [] []) s [] fresh r 2 (omega arith) z (here (of-false (eqb (length s) 1602) (ne-eqb (length s) 1602 n)))

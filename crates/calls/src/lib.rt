@@ -5,17 +5,19 @@ ghost use Rattle.model.specs.Calls.{fresh as freshCall, activate as activateCal
 ghost use Rattle.inner.specs.Promise.{lent, Answers, AnswersWith};
 ghost use Rattle.calls.specs.Judgement.{judgement};
 use model::Answer;
+use model::MALFORMED_POLICY;
 use model::STATE_SIZE;
+use model::UNSOUND_STATE;
 
 // The code that comes before every other, or 0 for sound tables.
 fn judge(rules: &[u16], kinds: &[u16], rights: &[u16], state: &[u16]) -> u16
     ensures { λ r. ⌜ r ≡ judgement (lent (now (rules .entry)) (now (kinds .entry)) (now (rights .entry))) (now (state .entry)) ⌝ }
 {
     if !policy::policy_sound(rules, kinds, rights) {
-        return 1;
+        return MALFORMED_POLICY;
     }
     if !sound::state_sound(rules, kinds, state) {
-        return 2;
+        return UNSOUND_STATE;
     }
     0
 }
@@ -25,7 +27,7 @@ pub fn fresh(state: &mut [u16]) -> Answer
     ensures { λ r. ⌜ Answers (lent [] [] []) (now (state .entry)) freshCall r (now (state .exit)) ⌝ }
 {
     if state.len() != STATE_SIZE {
-        return Answer { code: 2, second: 0 };
+        return inner::refused(UNSOUND_STATE);
     }
     inner::fresh(state)
 }
@@ -42,7 +44,7 @@ pub fn activate(
 {
     let code = judge(rules, kinds, rights, state);
     if code != 0 {
-        return Answer { code, second: 0 };
+        return inner::refused(code);
     }
     inner::activate(rules, kinds, rights, state, user, role)
 }
@@ -60,7 +62,7 @@ pub fn appoint(
 {
     let code = judge(rules, kinds, rights, state);
     if code != 0 {
-        return Answer { code, second: 0 };
+        return inner::refused(code);
     }
     inner::appoint(rules, kinds, rights, state, appointer, appointee, kind)
 }
@@ -79,7 +81,7 @@ pub fn revoke(
 {
     let code = judge(rules, kinds, rights, state);
     if code != 0 {
-        return Answer { code, second: 0 };
+        return inner::refused(code);
     }
     taking::revoke(
         rules,
@@ -106,7 +108,7 @@ pub fn withdraw(
 {
     let code = judge(rules, kinds, rights, state);
     if code != 0 {
-        return Answer { code, second: 0 };
+        return inner::refused(code);
     }
     taking::withdraw(rules, kinds, rights, state, appointee, kind, appointer)
 }
@@ -123,7 +125,7 @@ pub fn environment(
 {
     let code = judge(rules, kinds, rights, state);
     if code != 0 {
-        return Answer { code, second: 0 };
+        return inner::refused(code);
     }
     taking::environment(rules, kinds, rights, state, fact, value)
 }
@@ -133,7 +135,7 @@ pub fn logout(rules: &[u16], kinds: &[u16], rights: &[u16], state: &mut [u16], u
 {
     let code = judge(rules, kinds, rights, state);
     if code != 0 {
-        return Answer { code, second: 0 };
+        return inner::refused(code);
     }
     taking::logout(rules, kinds, rights, state, user)
 }
@@ -150,7 +152,7 @@ pub fn invoke(
 {
     let code = judge(rules, kinds, rights, state);
     if code != 0 {
-        return Answer { code, second: 0 };
+        return inner::refused(code);
     }
     query::invoke(rules, kinds, rights, state, user, privilege)
 }
@@ -168,7 +170,7 @@ pub fn effective(
 {
     let code = judge(rules, kinds, rights, state);
     if code != 0 {
-        return Answer { code, second: 0 };
+        return inner::refused(code);
     }
     query::effective(rules, kinds, rights, state, user, role, privilege)
 }
@@ -186,7 +188,7 @@ pub fn chain(
 {
     let code = judge(rules, kinds, rights, state);
     if code != 0 {
-        return Answer { code, second: 0 };
+        return inner::refused(code);
     }
     query::chain(rules, kinds, rights, state, user, role, list)
 }

@@ -49,7 +49,7 @@ out-of-range bs i e = of-false (every bs) (some-false bs i e)
 pub in-range : (bs : List Bool) → Each bs → T (not (not (every bs)))
 in-range bs e = not-not-of (every bs) (of-each bs e)
 
--- a test that code found true or false
+-- what code found true: the refusal where it is false does not apply
 pub found : (b : Bool) → b ≡ true → T (not (not b))
 found b e = not-not-of b (of-true b e)
 
@@ -76,6 +76,11 @@ sound-form t s h = is-true (wellFormed s) (sound-formed (policyOf t) s (h .state
 
 pub sound-sized : (t : Tables) (s : List ℕ) → Sound t s → Sized s
 sound-sized t s h = sized s (sound-form t s h)
+
+-- a sound state keeps the ranges
+pub sound-range : (t : Tables) (s : List ℕ) → Sound t s → InRange s
+unfolding policyClauses
+sound-range t s h = sound-in-range (policyOf t) s (leb→le (length (policyOf t .kinds)) 128 (each (policyClauses t) (h .policy) .1 .1 .1 .1 .0)) (is-true (sound (policyOf t) s) (h .state))
 
 pub row-length : (s : List ℕ) → length (decode s .rows) ≡ rowCount s
 unfolding decode
@@ -120,8 +125,3 @@ module _ (t : Tables) (s list : List ℕ) (h : Sound t s) (c : Call) (course : C
   pub own-accepts : (r : Answer) (s′ list′ : List ℕ) → r .code ≡ 0 → FirstApplies (course .refusals) 0 → r .second ≡ course .effect .second → s′ ≡ encode (course .effect .state) → list′ ≡ course .effect .list → AnswersWith t s list c r s′ list′
   unfolding judgedFirst
   own-accepts r s′ list′ z f a b l = accepts t s list c r s′ list′ z (own f) (a ∙ ap (λ (x : Course). x .effect .second) (sym is)) (b ∙ ap (λ (x : Course). encode (x .effect .state)) (sym is)) (l ∙ ap (λ (x : Course). x .effect .list) (sym is))
-
--- a sound state keeps the ranges
-pub sound-range : (t : Tables) (s : List ℕ) → Sound t s → InRange s
-unfolding policyClauses
-sound-range t s h = sound-in-range (policyOf t) s (leb→le (length (policyOf t .kinds)) 128 (each (policyClauses t) (h .policy) .1 .1 .1 .1 .0)) (is-true (sound (policyOf t) s) (h .state))

@@ -13,17 +13,24 @@ ghost use Rattle.model.specs.Words.{Sound};
 ghost use Rattle.table.specs.Entries.{worldAt, withoutRights, Sized};
 ghost use Rattle.index.specs.Marked.{has, satisfiedBy};
 ghost use Rattle.inner.specs.Promise.{lent, Answers};
+use model::ALREADY_ACTIVE;
 use model::Answer;
 use model::CERTIFICATE_COUNT_AT;
 use model::Certificate;
+use model::FIRST_FACT;
 use model::KIND_WIDTH;
 use model::MOST_CERTIFICATES;
 use model::MOST_ROWS;
+use model::NO_RULE_SATISFIED;
+use model::NOT_IN_APPOINTER_ROLE;
+use model::OUT_OF_RANGE;
 use model::ROLES;
 use model::ROW_COUNT_AT;
 use model::RULE_WIDTH;
 use model::Row;
+use model::STANDS_ALREADY;
 use model::STATE_SIZE;
+use model::TABLE_FULL;
 use model::USERS;
 
 pub fn refused(code: u16) -> Answer
@@ -90,24 +97,24 @@ pub fn activate(
     ensures { λ r. ⌜ Answers (lent (now (rules .entry)) (now (kinds .entry)) (now (rights .entry))) (now (state .entry)) (activateCall user role) r (now (state .exit)) ⌝ }
 {
     if USERS <= user {
-        return refused(3);
+        return refused(OUT_OF_RANGE);
     }
     if ROLES <= role {
-        return refused(3);
+        return refused(OUT_OF_RANGE);
     }
-    let mut own = [false; 384];
+    let mut own = [false; FIRST_FACT as usize];
     index::mark_roles(state, user, &mut own);
     if index::role_marked(&own, role) {
-        return refused(4);
+        return refused(ALREADY_ACTIVE);
     }
     index::mark_kinds(state, user, &mut own);
     let i = lowest_satisfied(rules, kinds, state, &own, role);
     if rules.len() / RULE_WIDTH <= i {
-        return refused(5);
+        return refused(NO_RULE_SATISFIED);
     }
     let k = table::wide(state[ROW_COUNT_AT]);
     if MOST_ROWS <= k {
-        return refused(6);
+        return refused(TABLE_FULL);
     }
     let rule = i as u16;
     change::append_row(state, Row { user, role, rule });
@@ -140,16 +147,16 @@ pub fn appoint(
     ensures { λ r. ⌜ Answers (lent (now (rules .entry)) (now (kinds .entry)) (now (rights .entry))) (now (state .entry)) (appointCall appointer appointee kind) r (now (state .exit)) ⌝ }
 {
     if USERS <= appointer {
-        return refused(3);
+        return refused(OUT_OF_RANGE);
     }
     if USERS <= appointee {
-        return refused(3);
+        return refused(OUT_OF_RANGE);
     }
     if kinds.len() / KIND_WIDTH <= table::wide(kind) {
-        return refused(3);
+        return refused(OUT_OF_RANGE);
     }
     if !is_appointer(kinds, state, appointer, kind) {
-        return refused(7);
+        return refused(NOT_IN_APPOINTER_ROLE);
     }
     let certificate = Certificate {
         appointee,
@@ -158,10 +165,10 @@ pub fn appoint(
     };
     let n = table::wide(state[CERTIFICATE_COUNT_AT]);
     if find_certificate(state, certificate) < n {
-        return refused(8);
+        return refused(STANDS_ALREADY);
     }
     if MOST_CERTIFICATES <= n {
-        return refused(6);
+        return refused(TABLE_FULL);
     }
     change::append_certificate(state, certificate);
     Answer { code: 0, second: 0 }

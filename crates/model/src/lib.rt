@@ -51,6 +51,29 @@ pub const CERTIFICATE_COUNT_AT: usize = 833;
 
 pub const CERTIFICATES_AT: usize = 834;
 
+// The codes that refuse; "Code 0 is acceptance." Code gives no 11: on sound tables no role would be written twice.
+pub const MALFORMED_POLICY: u16 = 1;
+
+pub const UNSOUND_STATE: u16 = 2;
+
+pub const OUT_OF_RANGE: u16 = 3;
+
+pub const ALREADY_ACTIVE: u16 = 4;
+
+pub const NO_RULE_SATISFIED: u16 = 5;
+
+pub const TABLE_FULL: u16 = 6;
+
+pub const NOT_IN_APPOINTER_ROLE: u16 = 7;
+
+pub const STANDS_ALREADY: u16 = 8;
+
+pub const NO_SUCH_CERTIFICATE: u16 = 9;
+
+pub const MAY_NOT_REVOKE: u16 = 10;
+
+pub const NOT_ACTIVE: u16 = 12;
+
 // A row of the rules: "target role, n, m, then eight conditions".
 pub struct Rule {
     pub target: u16,

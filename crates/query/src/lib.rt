@@ -14,6 +14,8 @@ ghost use Rattle.rests.specs.Asked.{AskedThrough};
 ghost use Rattle.query.specs.Reached.{restReaches, Ready, Tells};
 use model::Answer;
 use model::FIRST_FACT;
+use model::NOT_ACTIVE;
+use model::OUT_OF_RANGE;
 use model::PRIVILEGES;
 use model::ROLES;
 use model::ROW_COUNT_AT;
@@ -44,10 +46,10 @@ pub fn invoke(
     ensures { λ r. ⌜ Answers (lent (now (rules .entry)) (now (kinds .entry)) (now (rights .entry))) (now (state .entry)) (invokeCall user privilege) r (now (state .entry)) ⌝ }
 {
     if USERS <= user {
-        return inner::refused(3);
+        return inner::refused(OUT_OF_RANGE);
     }
     if PRIVILEGES <= privilege {
-        return inner::refused(3);
+        return inner::refused(OUT_OF_RANGE);
     }
     told(direct::may_invoke(rights, state, user, privilege))
 }
@@ -132,17 +134,17 @@ pub fn effective(
     ensures { λ r. ⌜ Answers (lent (now (rules .entry)) (now (kinds .entry)) (now (rights .entry))) (now (state .entry)) (effectiveCall user role privilege) r (now (state .entry)) ⌝ }
 {
     if USERS <= user {
-        return inner::refused(3);
+        return inner::refused(OUT_OF_RANGE);
     }
     if ROLES <= role {
-        return inner::refused(3);
+        return inner::refused(OUT_OF_RANGE);
     }
     if PRIVILEGES <= privilege {
-        return inner::refused(3);
+        return inner::refused(OUT_OF_RANGE);
     }
     let n = table::wide(state[ROW_COUNT_AT]);
     if !table::is_active(state, n, user, role) {
-        return inner::refused(12);
+        return inner::refused(NOT_ACTIVE);
     }
     let having = direct::roles_having(rights, privilege);
     let mut asked = [false; FIRST_FACT as usize];
@@ -164,17 +166,17 @@ pub fn chain(
     ensures { λ r. ⌜ AnswersWith (lent (now (rules .entry)) (now (kinds .entry)) (now (rights .entry))) (now (state .entry)) (now (list .entry)) (chainCall user role) r (now (state .entry)) (now (list .exit)) ⌝ }
 {
     if USERS <= user {
-        return inner::refused(3);
+        return inner::refused(OUT_OF_RANGE);
     }
     if ROLES <= role {
-        return inner::refused(3);
+        return inner::refused(OUT_OF_RANGE);
     }
     if list.len() != LIST_SIZE {
-        return inner::refused(3);
+        return inner::refused(OUT_OF_RANGE);
     }
     let mut k = table::wide(state[ROW_COUNT_AT]);
     if !table::is_active(state, k, user, role) {
-        return inner::refused(12);
+        return inner::refused(NOT_ACTIVE);
     }
     let mut q = role;
     let mut n: usize = 0;

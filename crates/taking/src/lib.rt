@@ -21,11 +21,13 @@ ghost use Rattle.taking.specs.Taken.{takenOn, Comes};
 use model::Answer;
 use model::CERTIFICATE_COUNT_AT;
 use model::Certificate;
+use model::FACTS;
 use model::KIND_WIDTH;
+use model::MAY_NOT_REVOKE;
+use model::NO_SUCH_CERTIFICATE;
+use model::OUT_OF_RANGE;
 use model::ROW_COUNT_AT;
 use model::USERS;
-
-const FACTS: u16 = 64;
 
 // Certificate j goes, and the rows that lose their support fall. Returns how many rows were lost.
 fn take_certificate(rules: &[u16], kinds: &[u16], state: &mut [u16], j: usize) -> u16
@@ -36,7 +38,8 @@ fn take_certificate(rules: &[u16], kinds: &[u16], state: &mut [u16], j: usize) -
     fall::fall(rules, kinds, state)
 }
 
-// Mode and caller allow the certificate's revocation.
+// Mode and caller allow the certificate's revocation: "mode 0 wants caller = appointer, active or not; mode 1 wants the caller active in
+// the appointer role; mode 2 always refuses."
 fn may_revoke(kinds: &[u16], state: &[u16], caller: u16, kind: u16, appointer: u16) -> bool
     requires { ⌜ Sized (now state) ⌝ }
     ensures { λ r. ⌜ r ≡ mayRevoke (decode (now (state .entry)) .rows) (kindNumbered (policyOf (withoutRights [] (now (kinds .entry)))) kind) caller appointer ⌝ }
@@ -67,20 +70,20 @@ fn take_away(
     ensures { λ r. ⌜ Comes (takenOn (given (lent (now (rules .entry)) (now (kinds .entry)) (now (rights .entry))) (now (state .entry)) []) certificate allowed) (now (state .entry)) r (now (state .exit)) ⌝ }
 {
     if USERS <= certificate.appointee {
-        return inner::refused(3);
+        return inner::refused(OUT_OF_RANGE);
     }
     if kinds.len() / KIND_WIDTH <= table::wide(certificate.kind) {
-        return inner::refused(3);
+        return inner::refused(OUT_OF_RANGE);
     }
     if USERS <= certificate.appointer {
-        return inner::refused(3);
+        return inner::refused(OUT_OF_RANGE);
     }
     let j = inner::find_certificate(state, certificate);
     if table::wide(state[CERTIFICATE_COUNT_AT]) <= j {
-        return inner::refused(9);
+        return inner::refused(NO_SUCH_CERTIFICATE);
     }
     if !allowed {
-        return inner::refused(10);
+        return inner::refused(MAY_NOT_REVOKE);
     }
     let second = take_certificate(rules, kinds, state, j);
     Answer { code: 0, second }
@@ -100,7 +103,7 @@ pub fn revoke(
     ensures { λ r. ⌜ Answers (lent (now (rules .entry)) (now (kinds .entry)) (now (rights .entry))) (now (state .entry)) (revokeCall caller appointee kind appointer) r (now (state .exit)) ⌝ }
 {
     if USERS <= caller {
-        return inner::refused(3);
+        return inner::refused(OUT_OF_RANGE);
     }
     let allowed = may_revoke(kinds, state, caller, kind, appointer);
     let certificate = Certificate {
@@ -157,10 +160,10 @@ pub fn environment(
     ensures { λ r. ⌜ Answers (lent (now (rules .entry)) (now (kinds .entry)) (now (rights .entry))) (now (state .entry)) (environmentCall fact value) r (now (state .exit)) ⌝ }
 {
     if FACTS <= fact {
-        return inner::refused(3);
+        return inner::refused(OUT_OF_RANGE);
     }
     if 2 <= value {
-        return inner::refused(3);
+        return inner::refused(OUT_OF_RANGE);
     }
     let second = settle_fact(rules, kinds, state, table::wide(fact), value);
     Answer { code: 0, second }
@@ -171,7 +174,7 @@ pub fn logout(rules: &[u16], kinds: &[u16], rights: &[u16], state: &mut [u16], u
     ensures { λ r. ⌜ Answers (lent (now (rules .entry)) (now (kinds .entry)) (now (rights .entry))) (now (state .entry)) (logoutCall user) r (now (state .exit)) ⌝ }
 {
     if USERS <= user {
-        return inner::refused(3);
+        return inner::refused(OUT_OF_RANGE);
     }
     let second = fall::drop_user(state, user);
     Answer { code: 0, second }

@@ -11,19 +11,15 @@ use borrow.Author.Needs.{needs}
 use Rattle.inner.proofs.is_appointer.Statement.{statement}
 use Rattle.inner.proofs.is_appointer.Tie as tie
 
--- src/lib.rt:125:43
 wide-requires : tie.Need-wide-requires
 wide-requires c κs = search needs
 
--- src/lib.rt:125:9
 kind-numbered-requires : tie.Need-kind-numbered-requires
 kind-numbered-requires c κs = search needs
 
--- src/lib.rt:126:25
 shared-slice-read-wide : tie.Need-shared-slice-read-wide
 shared-slice-read-wide c = search needs
 
--- src/lib.rt:126:9
 wide-requires-2 : tie.Need-wide-requires-2
 wide-requires-2 c κs = search needs
 
