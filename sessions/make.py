@@ -4,7 +4,8 @@
     make.py          writes NAME.csv and NAME.want for every case of large/
     make.py check    writes nothing; says whether the files here are those that
                      would be written, and whether every NAME.csv in the folder
-                     has its NAME.want and its one row in INDEX.md
+                     has its NAME.want and its one row in INDEX.md, with the mark
+                     of a large case exactly if it is one
 
 No program is asked: each wanted answer follows from the outline, and the
 comment beside it says how. The small sessions are files written by hand, and
@@ -16,15 +17,16 @@ import sys
 
 sys.dont_write_bytecode = True
 
-from large import edges, effective, length, limits  # noqa: E402
+from large import apart, edges, effective, length, limits  # noqa: E402
 from large.case import CASES  # noqa: E402
 
 HERE = pathlib.Path(__file__).resolve().parent
+MARK = "\\*"  # of a large case, in INDEX.md
 
 
 def index_rows():
-    """The names in INDEX.md: first cells of the tables headed `Case`."""
-    names = []
+    """First cells of the tables in INDEX.md that are headed `Case`."""
+    cells = []
     in_cases = False
     for line in (HERE / "INDEX.md").read_text(encoding="utf-8").splitlines():
         if line.startswith("| Case |"):
@@ -32,8 +34,8 @@ def index_rows():
         elif not line.startswith("|"):
             in_cases = False
         elif in_cases and not line.startswith("|---"):
-            names.append(line.split("|")[1].strip().replace("\\*", ""))
-    return names
+            cells.append(line.split("|")[1].strip())
+    return cells
 
 
 def check():
@@ -50,12 +52,13 @@ def check():
     wants = {path.stem for path in HERE.glob("*.want")}
     for name in sorted(inputs ^ wants):
         faults.append(name + " has no .csv or no .want")
-    for name in sorted(inputs):
-        if rows.count(name) != 1:
-            faults.append("%s has %d rows in INDEX.md" % (name, rows.count(name)))
-    for name in rows:
-        if name not in inputs:
-            faults.append(name + " is in INDEX.md and has no .csv")
+    wanted_rows = {name + MARK if name in CASES else name for name in inputs}
+    for row in sorted(wanted_rows):
+        if rows.count(row) != 1:
+            faults.append("%s has %d rows in INDEX.md" % (row, rows.count(row)))
+    for row in rows:
+        if row not in wanted_rows:
+            faults.append("%s is in INDEX.md and is no case" % row)
     for fault in faults:
         print(fault)
     print("%d sessions, %d faults" % (len(inputs), len(faults)))
@@ -63,12 +66,11 @@ def check():
 
 
 def main():
-    for module in (edges, limits, length, effective):
+    for module in (edges, apart, limits, length, effective):
         for build in module.BUILDS:
             build()
     for name, case in CASES.items():
-        long = name.startswith("limit-bytes-65537")
-        assert (len(case.csv()) > length.LIMIT) == long, name
+        assert (len(case.csv()) > length.LIMIT) == (case.want() == b"bad,0\r\n"), name
     if sys.argv[1:] == ["check"]:
         return check()
     if sys.argv[1:]:

@@ -1,4 +1,4 @@
-"""The length of the input, and of a number."""
+"""The length of the input and of a number, and how many records fit."""
 
 from large.case import Bytes, Session
 
@@ -41,6 +41,16 @@ def limit_bytes():
     Bytes("limit-bytes-65537-x", b"x" * (LIMIT + 1), b"bad,0\r\n")
 
 
+def limit_record():
+    # No record that is not bad is shorter than `env,0,0`, 9 bytes with its CRLF.
+    # 7,281 * 9 = 65,529, so 7 bytes are left for one more: no record has a
+    # higher number. The fact is false from the start, so nothing is lost.
+    good = 7281
+    csv = b"env,0,0\r\n" * good + b"x" * 7
+    assert len(csv) == LIMIT
+    Bytes("limit-record-7282", csv, b"0,0\r\n" * good + b"bad,7282\r\n")
+
+
 def bad_number_5000_digits():
     # Larger than 65,535, so it is no number: record 3 is bad.
     s = Session("bad-number-5000-digits")
@@ -50,4 +60,4 @@ def bad_number_5000_digits():
     s.put("logout", 1)
 
 
-BUILDS = (limit_bytes, bad_number_5000_digits)
+BUILDS = (limit_bytes, limit_record, bad_number_5000_digits)

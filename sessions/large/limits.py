@@ -5,15 +5,19 @@ from large.case import Session
 
 def limit_rules():
     # Rules 0 to 510 give role 0 to those in role 0: for one who is not, none of
-    # them is satisfied. Rule 511, the 512th row, has no conditions. So the
-    # lowest satisfied rule is 511.
+    # them is satisfied. Rule 511, the 512th row, wants fact 0. So the lowest
+    # satisfied rule is 511, and the role stands and falls with that fact.
     s = Session("limit-rules-512")
     for _ in range(511):
         s.put("rule", 0, 1, 0)
-    s.put("rule", 0, 0)
+    s.put("rule", 0, 1, 384)
+    s.ask("activate", 1, 0, want=(5, 0))
+    s.ask("env", 0, 1, want=(0, 0))
     s.ask("activate", 1, 0, want=(0, 511))
     s.ask("activate", 1, 0, want=(4, 0))
-    s.ask("logout", 1, want=(0, 1))
+    s.ask("env", 1, 1, want=(0, 0))
+    s.ask("env", 0, 0, want=(0, 1))
+    s.ask("logout", 1, want=(0, 0))
 
     # One more row is past the limit. It is record 513, and nothing follows.
     s = Session("bad-rule-513")
