@@ -103,8 +103,8 @@ fn on_certificates() -> Result<Vec<Case>, String> {
     let on = |tables: &str, scene: &Scene| case("invoke, none", tables, scene, &[(Invoke(user, NO_PRIVILEGE), 0, 0)]);
     Ok(vec![
         on("full, on roles", &scene),
-        on("on roles, certificates meet", &scene.clone().with_certificates(&meet)),
-        on("on roles, one appointee", &scene.clone().with_certificates(&of_one)),
+        on("full, certificates meet", &scene.clone().with_certificates(&meet)),
+        on("full, one appointee", &scene.clone().with_certificates(&of_one)),
     ])
 }
 
