@@ -1,6 +1,6 @@
 //! The baselines and the border agree on many calls, on sound tables and on spoilt ones.
 
-use crate::call::{indexed, ours, plain, unjudged, Call, Side};
+use crate::call::{Call, JUDGING, NOT_JUDGING};
 use crate::scene::{Scene, CERTIFICATE_COUNT, FULL, MIDDLE, ROW_COUNT};
 use adobethrum::LIST;
 
@@ -100,16 +100,16 @@ impl Numbers {
     }
 }
 
-/// Gives all sides the call, which must do the same; so must the unjudged call, where policy and state are found sound.
+/// Gives all sides the call, which must do the same; so must those that do not judge, where policy and state are found sound.
 fn all(call: Call, scene: &Scene, state: &mut [u16], list: &mut [u16]) -> u16 {
     let (before, list_before) = (state.to_vec(), list.to_vec());
+    let (_, ours) = JUDGING[0];
     let answer = ours(call, scene.policy(), state, list);
     let unsound = [1, 2].contains(&answer.code);
-    let baselines: &[Side] = if unsound { &[plain, indexed] } else { &[plain, indexed, unjudged] };
-    for baseline in baselines {
+    for (name, side) in JUDGING[1..].iter().chain(NOT_JUDGING.iter().filter(|_| !unsound)) {
         let (mut other, mut other_list) = (before.clone(), list_before.clone());
-        assert_eq!(answer, baseline(call, scene.policy(), &mut other, &mut other_list), "{call:?}");
-        assert_eq!((&*state, &*list), (&other[..], &other_list[..]), "{call:?}");
+        assert_eq!(answer, side(call, scene.policy(), &mut other, &mut other_list), "{name}: {call:?}");
+        assert_eq!((&*state, &*list), (&other[..], &other_list[..]), "{name}: {call:?}");
     }
     answer.code
 }

@@ -1,7 +1,7 @@
 //! A call as data, so that all sides, and both programs, are given the very same ones.
 
 use crate::plain::unjudged;
-use crate::{indexed, plain};
+use crate::{archive, indexed, plain};
 use adobethrum::{Answer, Policy};
 
 #[derive(Clone, Copy, Debug)]
@@ -86,8 +86,20 @@ baseline! {
     indexed
 }
 
-/// All sides that judge, in the order of the table.
-pub const SIDES: [Side; 3] = [ours, plain, indexed];
+/// A side, and what it is called in a table.
+pub type Named = (&'static str, Side);
+
+/// The sides that judge, in the order of the table: ours, and those that stand beside it.
+pub const JUDGING: &[Named] = &[
+    ("ours", ours),
+    ("plain", plain),
+    ("indexed", indexed),
+    #[cfg(before)]
+    ("before", archive::before),
+];
+
+/// The sides that do not.
+pub const NOT_JUDGING: &[Named] = &[("ours", archive::within), ("plain unjudged", unjudged)];
 
 impl Call {
     /// The program's record of the call. Fresh and chain have none.
@@ -102,25 +114,6 @@ impl Call {
             Call::Logout(user) => format!("logout,{user}\r\n"),
             Call::Invoke(user, privilege) => format!("invoke,{user},{privilege}\r\n"),
             Call::Effective(user, role, privilege) => format!("effective,{user},{role},{privilege}\r\n"),
-        }
-    }
-
-    /// The same call with one number out of its range, which is refused with 3. Its record is as long wherever the number that goes has
-    /// as many digits: four for a user, two for a fact.
-    pub fn out_of_range(self) -> Call {
-        const NO_USER: u16 = 4096;
-        const NO_FACT: u16 = 64;
-        const NO_PRIVILEGE: u16 = 1024;
-        match self {
-            Call::Fresh | Call::Chain(..) => panic!("no record of the program makes this call"),
-            Call::Activate(_, role) => Call::Activate(NO_USER, role),
-            Call::Appoint(_, appointee, kind) => Call::Appoint(NO_USER, appointee, kind),
-            Call::Revoke(_, appointee, kind, appointer) => Call::Revoke(NO_USER, appointee, kind, appointer),
-            Call::Withdraw(_, kind, appointer) => Call::Withdraw(NO_USER, kind, appointer),
-            Call::Environment(_, value) => Call::Environment(NO_FACT, value),
-            Call::Logout(_) => Call::Logout(NO_USER),
-            Call::Invoke(user, _) => Call::Invoke(user, NO_PRIVILEGE),
-            Call::Effective(user, role, _) => Call::Effective(user, role, NO_PRIVILEGE),
         }
     }
 }

@@ -1,8 +1,8 @@
 //! Cases: calls on a state, what they must answer, and what they cost on each side.
 
-use crate::call::{unjudged, Call, Side, SIDES};
+use crate::call::{Call, Named, Side, JUDGING, NOT_JUDGING};
 use crate::scene::Scene;
-use crate::table::{beside, Cell, Line};
+use crate::table::Line;
 use adobethrum::{Answer, LIST, STATE};
 use std::hint::black_box;
 use std::time::{Duration, Instant};
@@ -20,6 +20,7 @@ pub enum Again {
     Copied,
 }
 
+#[derive(Clone)]
 pub struct Case {
     pub name: String,
     pub tables: String,
@@ -30,13 +31,18 @@ pub struct Case {
 }
 
 impl Case {
+    /// The calls come to a code that lies behind the judging of policy and state.
+    pub fn is_on_sound_tables(&self) -> bool {
+        self.calls.iter().all(|(_, code, _)| ![1, 2].contains(code))
+    }
+
     /// Each side must give the wanted answers, and the same state and list as the first.
-    fn agree(&self, sides: &[Side]) -> Result<(), String> {
+    fn agree(&self, sides: &[Named]) -> Result<(), String> {
         let wrong = |what: String| Err(format!("{}, {}: {what}", self.name, self.tables));
         let mut states = vec![self.scene.state.clone(); sides.len()];
         let mut lists = vec![[9; LIST]; sides.len()];
         for &(call, code, second) in &self.calls {
-            for ((side, state), list) in sides.iter().zip(&mut states).zip(&mut lists) {
+            for (((_, side), state), list) in sides.iter().zip(&mut states).zip(&mut lists) {
                 let answer = side(call, self.scene.policy(), state, list);
                 if answer != (Answer { code, second }) {
                     return wrong(format!("{call:?} answers {answer:?}, which is not what the case is about"));
@@ -85,52 +91,47 @@ impl Case {
 }
 
 /// A case that the sides agree on, and of each side the rounds of a batch and the best batch so far.
-pub struct Measured<const N: usize> {
+pub struct Measured {
     case: Case,
-    sides: [Side; N],
-    rounds: [usize; N],
-    best: [Duration; N],
+    sides: &'static [Named],
+    rounds: Vec<usize>,
+    best: Vec<Duration>,
 }
 
-impl Measured<3> {
+impl Measured {
     /// The calls of the sides that judge.
-    pub fn judged(case: Case) -> Result<Measured<3>, String> {
-        case.agree(&SIDES)?;
-        Ok(Measured::new(case, SIDES))
+    pub fn judged(case: Case) -> Result<Measured, String> {
+        case.agree(JUDGING)?;
+        Ok(Measured::new(case, JUDGING))
     }
 
-    pub fn line(&self) -> Line {
-        let [ours, plain, indexed] = self.times();
-        let others = [plain, indexed].into_iter().flat_map(|other| beside(ours, other));
-        let cells = std::iter::once(Cell::Time(ours)).chain(others).collect();
-        Line { what: self.case.name.clone(), tables: self.case.tables.clone(), cells }
+    /// The calls of the sides that do not, and which must do the same. Each call is made by a side that judges first, so that the tables
+    /// are known to be sound when the others are given them.
+    pub fn unjudged(case: Case) -> Result<Measured, String> {
+        if !case.is_on_sound_tables() {
+            return Err(format!("{}, {}: not for calls that do not judge", case.name, case.tables));
+        }
+        case.agree(&[JUDGING, NOT_JUDGING].concat())?;
+        Ok(Measured::new(case, NOT_JUDGING))
     }
-}
 
-impl Measured<1> {
-    /// The calls without judging, which must do what all sides do that judge.
-    pub fn unjudged(case: Case) -> Result<Measured<1>, String> {
-        case.agree(&[&SIDES[..], &[unjudged]].concat())?;
-        Ok(Measured::new(case, [unjudged]))
-    }
-}
-
-impl<const N: usize> Measured<N> {
-    fn new(case: Case, sides: [Side; N]) -> Measured<N> {
-        Measured { rounds: sides.map(|side| case.rounds(side)), case, sides, best: [Duration::MAX; N] }
+    fn new(case: Case, sides: &'static [Named]) -> Measured {
+        let rounds = sides.iter().map(|&(_, side)| case.rounds(side)).collect();
+        Measured { rounds, case, sides, best: vec![Duration::MAX; sides.len()] }
     }
 
     /// Batches of the sides take turns.
     pub fn pass(&mut self) {
         let mut states = Vec::new();
-        for turn in 0..BATCHES * N {
-            let at = turn % N;
-            self.best[at] = self.case.batch(self.sides[at], self.rounds[at], &mut states).min(self.best[at]);
+        for turn in 0..BATCHES * self.sides.len() {
+            let at = turn % self.sides.len();
+            self.best[at] = self.case.batch(self.sides[at].1, self.rounds[at], &mut states).min(self.best[at]);
         }
     }
 
     /// What a round costs each side, in microseconds.
-    pub fn times(&self) -> [f64; N] {
-        std::array::from_fn(|at| self.best[at].as_secs_f64() * 1e6 / self.rounds[at] as f64)
+    pub fn line(&self) -> Line {
+        let times = self.best.iter().zip(&self.rounds).map(|(best, &rounds)| best.as_secs_f64() * 1e6 / rounds as f64).collect();
+        Line { what: self.case.name.clone(), tables: self.case.tables.clone(), times }
     }
 }

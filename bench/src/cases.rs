@@ -82,13 +82,63 @@ fn on_growing(full: &Scene) -> Vec<Case> {
     [invoke, idle, falls].into_iter().flatten().collect()
 }
 
-/// Every case, in the order of the table.
-pub fn all() -> Result<Vec<Case>, String> {
-    let full = Scene::workshop(&FULL)?;
+/// The certificate of the appointee that leaves the sum at a multiple of 16,384, of the lowest kind for which there is an appointer. By
+/// that remainder an earlier state told certificates apart, and looked through all of them wherever it had met one before.
+fn meeting(appointee: u16) -> Option<[u16; 3]> {
+    const INVERSE_OF_61: u32 = 5909;
+    (0..FULL.kinds).find_map(|kind| {
+        let sum = (u32::from(appointee) * 129 + u32::from(kind)) % 16384;
+        let appointer = (16384 - sum) * INVERSE_OF_61 % 16384;
+        (appointer < 4096).then_some([appointee, kind, appointer as u16])
+    })
+}
+
+/// Certificates that may mislead what tells them apart, beside those of the full tables: what differs between these lines is the
+/// certificates alone.
+fn on_certificates() -> Result<Vec<Case>, String> {
+    let (user, _) = FULL.deep_user();
+    let scene = Scene::on_roles()?;
+    let meet: Vec<[u16; 3]> = (0..256).filter_map(|i| meeting(16 * i)).collect();
+    let of_one: Vec<[u16; 3]> = (0..FULL.kinds).flat_map(|kind| [[user, kind, 0], [user, kind, LATE_USER]]).collect();
+    let on = |tables: &str, scene: &Scene| case("invoke, none", tables, scene, &[(Invoke(user, NO_PRIVILEGE), 0, 0)]);
+    Ok(vec![
+        on("full, on roles", &scene),
+        on("full, certificates meet", &scene.clone().with_certificates(&meet)),
+        on("full, one appointee", &scene.clone().with_certificates(&of_one)),
+    ])
+}
+
+/// The calls that are measured with and without judging.
+fn on_each_sort(full: &Scene) -> Result<Vec<Case>, String> {
     let mut cases = on_empty(&Scene::empty()?);
     cases.extend(on_workshop(&Scene::workshop(&MIDDLE)?, &MIDDLE, "middle", 71));
-    cases.extend(on_workshop(&full, &FULL, "full", 248));
-    cases.extend(on_diamonds(&full)?);
-    cases.extend(on_growing(&full));
+    cases.extend(on_workshop(full, &FULL, "full", 248));
+    cases.extend(on_diamonds(full)?);
     Ok(cases)
+}
+
+/// Every case of the sides that judge, in the order of the table.
+pub fn judged() -> Result<Vec<Case>, String> {
+    let full = Scene::workshop(&FULL)?;
+    Ok(on_each_sort(&full)?.into_iter().chain(on_certificates()?).chain(on_growing(&full)).collect())
+}
+
+/// Every case of the sides that do not.
+pub fn unjudged() -> Result<Vec<Case>, String> {
+    Ok(on_each_sort(&Scene::workshop(&FULL)?)?.into_iter().filter(Case::is_on_sound_tables).collect())
+}
+
+#[cfg(test)]
+mod tests {
+    use super::*;
+
+    #[test]
+    fn certificates_meet() {
+        let certificates: Vec<_> = (0..256).filter_map(|i| meeting(16 * i)).collect();
+        assert_eq!(certificates.len(), 256);
+        for [appointee, kind, appointer] in certificates {
+            let sum = u32::from(appointee) * 129 + u32::from(kind) + u32::from(appointer) * 61;
+            assert!(appointer < 4096 && sum % 16384 == 0, "{appointee}, {kind}, {appointer}");
+        }
+    }
 }

@@ -2,6 +2,7 @@
 
 #[cfg(test)]
 mod agree;
+mod archive;
 mod call;
 mod case;
 mod cases;
@@ -14,22 +15,41 @@ mod scene;
 mod table;
 mod worst;
 
-use process::Programs;
+use call::{Named, JUDGING, NOT_JUDGING};
+use case::Measured;
+use process::{Programs, NAMES};
 use table::{Head, Line};
 
 /// The machine is not always equally quick, so every case is measured in several passes over all of them.
 const PASSES: usize = 8;
 
-const CALLS: Head = Head { title: "Public calls", note: "", columns: &["ours, µs", "plain, µs", "ratio", "indexed, µs", "ratio"] };
-const EVENTS: Head = Head {
-    title: "The program's events",
-    note: "Record is the event's twin, refused with 3; ours call is event less record, and the first ratio is its own to plain unjudged.\n\
-           The last ratio is that of the event.",
-    columns: &["ours event, µs", "record, µs", "ours call, µs", "plain unjudged, µs", "ratio", "second, µs", "ratio"],
-};
-const TEXTS: Head = Head { title: "Whole texts through the program", note: "", columns: &["ours, ms", "second, ms", "ratio"] };
+type Table = (Head, Vec<Line>);
 
-type Tables = Vec<(Head, Vec<Line>)>;
+/// What is called in this process: the cases of the sides that judge, and of those that do not.
+struct Calls {
+    judged: Vec<Measured>,
+    unjudged: Vec<Measured>,
+}
+
+impl Calls {
+    fn new() -> Result<Calls, String> {
+        let judged = cases::judged()?.into_iter().map(Measured::judged).collect::<Result<_, _>>()?;
+        let unjudged = cases::unjudged()?.into_iter().map(Measured::unjudged).collect::<Result<_, _>>()?;
+        Ok(Calls { judged, unjudged })
+    }
+
+    fn pass(&mut self) {
+        self.judged.iter_mut().chain(&mut self.unjudged).for_each(Measured::pass);
+    }
+
+    fn tables(&self) -> [Table; 2] {
+        let table = |title, sides: &[Named], cases: &[Measured]| {
+            let sides = sides.iter().map(|(name, _)| *name).collect();
+            (Head { title, unit: "µs", sides }, cases.iter().map(Measured::line).collect())
+        };
+        [table("Public calls", JUDGING, &self.judged), table("Calls without judging", NOT_JUDGING, &self.unjudged)]
+    }
+}
 
 /// What is run as a process: sessions with events, and whole texts.
 struct Processes<'a> {
@@ -50,26 +70,26 @@ impl<'a> Processes<'a> {
         self.texts.iter_mut().try_for_each(|text| text.pass(self.programs))
     }
 
-    fn tables(&self) -> Tables {
-        let sessions = self.sessions.iter().map(programs::Session::line).collect();
-        let texts = self.texts.iter().map(worst::Busy::line).collect();
-        vec![(EVENTS, sessions), (TEXTS, texts)]
+    fn tables(&self) -> [Table; 2] {
+        let head = |title, unit| Head { title, unit, sides: NAMES[..self.programs.len()].to_vec() };
+        let sessions = self.sessions.iter().map(|session| session.line(self.programs)).collect();
+        let texts = self.texts.iter().map(|text| text.line(self.programs)).collect();
+        [(head("The program's events", "µs"), sessions), (head("Whole texts through the program", "ms"), texts)]
     }
 }
 
-fn measured(programs: &[String]) -> Result<Tables, String> {
+fn measured(programs: &[String]) -> Result<Vec<Table>, String> {
     let mut processes = match programs {
         [] => None,
-        [terminal, second] => Some(Processes::of([terminal, second])?),
-        _ => return Err("usage: bench [--page] [TERMINAL SECOND]".to_string()),
+        [_, _] | [_, _, _] => Some(Processes::of(programs)?),
+        _ => return Err("usage: bench [--page] [TERMINAL SECOND [TERMINAL_BEFORE]]".to_string()),
     };
-    let mut cases = cases::all()?.into_iter().map(case::Measured::judged).collect::<Result<Vec<_>, _>>()?;
+    let mut calls = Calls::new()?;
     for _ in 0..PASSES {
-        cases.iter_mut().for_each(case::Measured::pass);
+        calls.pass();
         processes.iter_mut().try_for_each(Processes::pass)?;
     }
-    let calls = (CALLS, cases.iter().map(case::Measured::line).collect());
-    Ok(std::iter::once(calls).chain(processes.iter().flat_map(Processes::tables)).collect())
+    Ok(calls.tables().into_iter().chain(processes.iter().flat_map(Processes::tables)).collect())
 }
 
 fn main() {

@@ -9,10 +9,10 @@ use std::io::Write;
 use std::process::{Command, Stdio};
 use std::time::Duration;
 
-/// The programs that are compared: ours and the second implementation.
-pub type Programs<'a> = [&'a str; 2];
-pub const OURS: usize = 0;
-pub const SECOND: usize = 1;
+/// The programs that are compared, as they come on the command line: ours, the second implementation and, if given, ours of an earlier
+/// state.
+pub type Programs<'a> = &'a [String];
+pub const NAMES: [&str; 3] = ["ours", "second", "before"];
 
 /// What the C library's getrusage fills on x86-64: seconds and microseconds as user and as system, and fourteen counts.
 #[repr(C)]
@@ -53,12 +53,12 @@ fn run(program: &str, input: &str) -> Result<(Duration, Vec<u8>), String> {
 pub struct Input {
     pub text: String,
     wanted: String,
-    times: [Vec<Duration>; 2],
+    times: [Vec<Duration>; NAMES.len()],
 }
 
 impl Input {
     pub fn new(text: String, wanted: String) -> Input {
-        Input { text, wanted, times: [Vec::new(), Vec::new()] }
+        Input { text, wanted, times: NAMES.map(|_| Vec::new()) }
     }
 
     /// A scene's session, and behind it so many times the calls, each with the code and the second number that it must answer.
@@ -70,7 +70,7 @@ impl Input {
 
     /// One run of one of the programs, which must write what is wanted.
     pub fn run(&mut self, programs: Programs, side: usize) -> Result<(), String> {
-        let (time, written) = run(programs[side], &self.text)?;
+        let (time, written) = run(&programs[side], &self.text)?;
         if written != self.wanted.as_bytes() {
             return Err(format!("{} does not write what is wanted", programs[side]));
         }

@@ -1,6 +1,6 @@
 //! Policies, and the calls that lead from a fresh state to the one that is measured.
 
-use crate::call::{Call, SIDES};
+use crate::call::{Call, JUDGING};
 use adobethrum::{Policy, LIST, STATE};
 
 /// Where the counts of active rows and of certificates stand in a state.
@@ -77,10 +77,11 @@ impl Scene {
 
     /// Runs the story on every side. Each call must be accepted, with the same answer and the same state on all.
     pub fn told(mut self) -> Result<Scene, String> {
-        let mut states = SIDES.map(|_| [0; STATE]);
+        let mut states = vec![[0; STATE]; JUDGING.len()];
         let mut list = [0; LIST];
         for &call in &self.story {
-            let answers = [0, 1, 2].map(|at| SIDES[at](call, self.policy(), &mut states[at], &mut list));
+            let told = JUDGING.iter().zip(&mut states).map(|((_, side), state)| side(call, self.policy(), state, &mut list));
+            let answers: Vec<_> = told.collect();
             let agreed = answers[1..].iter().all(|answer| *answer == answers[0]) && states[1..].iter().all(|state| *state == states[0]);
             if answers[0].code != 0 || !agreed {
                 return Err(format!("{call:?} of a story: refused, or the sides differ"));
@@ -152,6 +153,25 @@ impl Scene {
             scene.state[count + 1 + 3 * rows..count + 1 + 3 * 256].fill(0);
         }
         scene
+    }
+
+    /// Full tables in which no row rests on a certificate, so that any may stand: a rule that asks for one asks for the role before its
+    /// own a second time.
+    pub fn on_roles() -> Result<Scene, String> {
+        let mut scene = Scene::workshop(&FULL)?;
+        for rule in scene.rules.chunks_exact_mut(11).filter(|rule| (256..384).contains(&rule[4])) {
+            rule[4] = rule[3];
+        }
+        Ok(scene)
+    }
+
+    /// The scene with these certificates and no others.
+    pub fn with_certificates(mut self, certificates: &[[u16; 3]]) -> Scene {
+        let table = &mut self.state[CERTIFICATE_COUNT..];
+        table.fill(0);
+        table[0] = certificates.len() as u16;
+        table[1..].iter_mut().zip(certificates.iter().flatten()).for_each(|(place, &number)| *place = number);
+        self
     }
 
     /// A diamond: one user in 256 roles, each granted on a rule that names the role before it eight times.

@@ -2,9 +2,9 @@
 //! be, as many of these calls as there is room for.
 
 use crate::call::Call::{self, *};
-use crate::process::{room, Input, Programs, OURS, SECOND};
+use crate::process::{room, Input, Programs};
 use crate::scene::Scene;
-use crate::table::{beside, Cell, Line};
+use crate::table::Line;
 
 /// A text, and how many events it ends in.
 pub struct Busy {
@@ -22,14 +22,14 @@ impl Busy {
 
     /// One run of each program; the best run of all passes counts.
     pub fn pass(&mut self, programs: Programs) -> Result<(), String> {
-        [OURS, SECOND].into_iter().try_for_each(|side| self.input.run(programs, side)).map_err(|why| format!("{}: {why}", self.what))
+        (0..programs.len()).try_for_each(|side| self.input.run(programs, side)).map_err(|why| format!("{}: {why}", self.what))
     }
 
-    pub fn line(&self) -> Line {
-        let [ours, second] = [OURS, SECOND].map(|side| self.input.time(side) / 1e3);
+    /// What each program takes, in milliseconds.
+    pub fn line(&self, programs: Programs) -> Line {
+        let times = (0..programs.len()).map(|side| self.input.time(side) / 1e3).collect();
         let tables = format!("{} events, {} bytes", self.events, self.input.text.len());
-        let cells = [Cell::Time(ours)].into_iter().chain(beside(ours, second)).collect();
-        Line { what: self.what.into(), tables, cells }
+        Line { what: self.what.into(), tables, times }
     }
 }
 
