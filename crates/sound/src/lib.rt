@@ -67,11 +67,15 @@ fn well_formed(state: &[u16]) -> bool
         return false;
     }
     let used = rows * ROW_WIDTH;
-    if !policy::all_zero(state, ROWS_AT + used, 768 - used) {
+    if !table::all_zero(state, ROWS_AT + used, MOST_ROWS * ROW_WIDTH - used) {
         return false;
     }
     let standing = certificates * CERTIFICATE_WIDTH;
-    if !policy::all_zero(state, CERTIFICATES_AT + standing, 768 - standing) {
+    if !table::all_zero(
+        state,
+        CERTIFICATES_AT + standing,
+        MOST_CERTIFICATES * CERTIFICATE_WIDTH - standing,
+    ) {
         return false;
     }
     true
