@@ -12,7 +12,7 @@ ghost use Rattle.table.specs.Entries.{certificateAt, firstCertificates, without
 ghost use Rattle.index.specs.Owned.{CertificatesInRange};
 ghost use Rattle.policy.specs.Lent.{kindsOnly};
 ghost use Rattle.sound.specs.Traces.{trace, Traced};
-ghost use Rattle.sound.specs.Named.{rowNamed, rulesOnly, isOne};
+ghost use Rattle.sound.specs.Named.{rowNamed, rulesOnly, saidToStay};
 use model::CERTIFICATE_COUNT_AT;
 use model::CERTIFICATE_WIDTH;
 use model::CERTIFICATES_AT;
@@ -216,7 +216,7 @@ fn rows_named(rules: &[u16], state: &[u16]) -> bool
 // Each of the first n rows stays, and none stands twice.
 fn each_stays(verdicts: &[u8], n: usize) -> bool
     requires { ⌜ n ≤ length (now verdicts) ⌝ }
-    ensures { λ r. ⌜ r ≡ all isOne (take n (now (verdicts .entry))) ⌝ }
+    ensures { λ r. ⌜ r ≡ all saidToStay (take n (now (verdicts .entry))) ⌝ }
 {
     let mut i: usize = 0;
     while i < n {
