@@ -14,8 +14,8 @@ use Rattle.model.specs.declared.Certificate.{Certificate}
 use Rattle.model.proofs.Tests.{lt-or-ge}
 use Rattle.table.specs.Entries.{rowAt, firstRows, certificateAt, firstCertificates}
 use Rattle.table.proofs.Entries.{entries-more, row-places, certificate-places, entry-in, length-entries, rows-more}
-use Rattle.fall.specs.Writes.{Moved, Zeroed}
-use Rattle.fall.proofs.Form.{threeAt, makeRow, makeCertificate, Formed, as-encoded, facts-kept, certificates-kept, rows-kept, rows-first-same, certificate-same, certificates-first-same}
+use Rattle.table.specs.Writes.{Moved, Zeroed}
+use Rattle.table.proofs.Form.{threeAt, makeRow, makeCertificate, Formed, as-encoded, facts-kept, certificates-kept, rows-kept, rows-first-same, certificate-same, certificates-first-same}
 use Rattle.change.specs.Appended.{Appended}
 
 -- ── one entry more ──

@@ -16,7 +16,7 @@ use model::Certificate;
 use model::ROW_COUNT_AT;
 use model::Row;
 
-// The table that stands behind its count at a place has one entry more.
+// The table that stands behind its count at a place has one entry more. Rows and certificates are three numbers each.
 fn append(state: &mut [u16], at: usize, x: u16, y: u16, z: u16)
     requires { ⌜ (getD (now state) at 0 < 256) × (at + 769 ≤ length (now state)) ⌝ }
     ensures { λ r. ⌜ Appended (now (state .entry)) (now (state .exit)) at x y z ⌝ }
@@ -60,8 +60,8 @@ pub fn remove_certificate(state: &mut [u16], j: usize)
     let last = n - 1;
     let b = j * CERTIFICATE_WIDTH + CERTIFICATES_AT;
     let e = last * CERTIFICATE_WIDTH + CERTIFICATES_AT;
-    fall::move_down(state, b + CERTIFICATE_WIDTH, b, e - b);
-    fall::zero(state, e, e + CERTIFICATE_WIDTH);
+    table::move_down(state, b + CERTIFICATE_WIDTH, b, e - b);
+    table::zero(state, e, e + CERTIFICATE_WIDTH);
     state[CERTIFICATE_COUNT_AT] = last as u16;
 }
 

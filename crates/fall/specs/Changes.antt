@@ -10,7 +10,7 @@ use Rattle.model.specs.Layout.{decode, encode, rowCountAt, rowsAt, rowCount}
 use Rattle.model.specs.Limits.{rowWidth}
 use Rattle.model.specs.declared.Row.{Row}
 use Rattle.table.specs.Entries.{rowAt, firstRows}
-use Rattle.fall.specs.Writes.{Moved}
+use Rattle.table.specs.Writes.{Moved}
 
 -- where row i begins
 abbrev pub rowPlace : ℕ → ℕ
@@ -34,7 +34,7 @@ staying stays s (suc n) = cond (stays n) (staying stays s n ++ (rowAt s n ∷ []
 pub record Swept (stays : ℕ → Bool) (s₀ s : List ℕ) (i w : ℕ) : Type 0 where
   pub within : w ≤ i
   pub size : length s ≡ length s₀
-  pub below : (k : ℕ) → k < 65 → getD s k 0 ≡ getD s₀ k 0
+  pub below : (k : ℕ) → k < rowsAt → getD s k 0 ≡ getD s₀ k 0
   pub above : (k : ℕ) → rowPlace i ≤ k → getD s k 0 ≡ getD s₀ k 0
   pub rows : firstRows s w ≡ staying stays s₀ i
 

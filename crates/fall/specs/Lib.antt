@@ -1,2 +1,1 @@
-pub mod Writes
 pub mod Changes

@@ -1,7 +1,7 @@
 // Rows go from a state, in place: those that have lost their support, or a user's. The rows left close up, and the count is set.
 ghost use mathlib.Core.Path.{_≡_};
 ghost use mathlib.Core.Bool.{true};
-ghost use Prim.Native.Nat.{ℕ, _+_, _<_, _≤_};
+ghost use Prim.Native.Nat.{ℕ, _<_, _≤_};
 ghost use lib.ListN.{length};
 ghost use Rattle.model.specs.Lists.{without};
 ghost use Rattle.model.specs.Limits.{mostRows, stateSize};
@@ -12,35 +12,11 @@ ghost use Rattle.model.specs.Sound.{wellFormed};
 ghost use Rattle.model.specs.Calls.{ofUser};
 ghost use Rattle.table.specs.Entries.{worldAt, Sized};
 ghost use Rattle.index.specs.Owned.{InRange};
-ghost use Rattle.fall.specs.Writes.{Moved, Zeroed};
+ghost use Rattle.table.specs.Writes.{Moved};
 ghost use Rattle.fall.specs.Changes.{rowPlace, Settled, isKept, Swept, Closed, RowsLeft};
 use model::ROW_COUNT_AT;
 use model::ROW_WIDTH;
 use model::ROWS_AT;
-
-// The n numbers from `from` on are moved down to `to`.
-pub fn move_down(s: &mut [u16], from: usize, to: usize, n: usize)
-    requires { ⌜ (to ≤ from) × (from + n ≤ length (now s)) ⌝ }
-    ensures { λ r. ⌜ Moved (now (s .entry)) (now (s .exit)) from to n ⌝ }
-{
-    let mut p: usize = 0;
-    while p < n {
-        s[to + p] = s[from + p];
-        p += 1;
-    }
-}
-
-// The numbers from a up to e become zero.
-pub fn zero(s: &mut [u16], a: usize, e: usize)
-    requires { ⌜ (a ≤ e) × (e ≤ length (now s)) ⌝ }
-    ensures { λ r. ⌜ Zeroed (now (s .entry)) (now (s .exit)) a e ⌝ }
-{
-    let mut p = a;
-    while p < e {
-        s[p] = 0;
-        p += 1;
-    }
-}
 
 // Row i stands behind the first w rows. A row that need not move is not written.
 fn keep_row(state: &mut [u16], w: usize, i: usize)
@@ -48,7 +24,7 @@ fn keep_row(state: &mut [u16], w: usize, i: usize)
     ensures { λ r. ⌜ Moved (now (state .entry)) (now (state .exit)) (rowPlace i) (rowPlace w) 3 ⌝ }
 {
     if w < i {
-        move_down(
+        table::move_down(
             state,
             i * ROW_WIDTH + ROWS_AT,
             w * ROW_WIDTH + ROWS_AT,
@@ -74,7 +50,7 @@ fn close(state: &mut [u16], w: usize, n: usize) -> u16
     requires { ⌜ (length (now state) ≡ stateSize) × (w ≤ n) × (n ≤ mostRows) ⌝ }
     ensures { λ r. ⌜ Closed (now (state .entry)) (now (state .exit)) w n r ⌝ }
 {
-    zero(state, w * ROW_WIDTH + ROWS_AT, n * ROW_WIDTH + ROWS_AT);
+    table::zero(state, w * ROW_WIDTH + ROWS_AT, n * ROW_WIDTH + ROWS_AT);
     state[ROW_COUNT_AT] = w as u16;
     (n - w) as u16
 }

@@ -11,7 +11,7 @@ use Rattle.model.specs.Layout.{encode}
 use Rattle.model.specs.Calls.{fresh, freshOn, courseOf}
 use Rattle.model.specs.Words.{none, later}
 use Rattle.model.specs.declared.Answer.{Answer}
-use Rattle.fall.specs.Writes.{Zeroed}
+use Rattle.table.specs.Writes.{Zeroed}
 use Rattle.inner.specs.Promise.{lent, Answers}
 use Rattle.inner.proofs.Codes.{accepts, found}
 

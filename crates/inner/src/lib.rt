@@ -80,7 +80,7 @@ pub fn fresh(state: &mut [u16]) -> Answer
     requires { ⌜ length (now state) ≡ stateSize ⌝ }
     ensures { λ r. ⌜ Answers (lent [] [] []) (now (state .entry)) freshCall r (now (state .exit)) ⌝ }
 {
-    fall::zero(state, 0, STATE_SIZE);
+    table::zero(state, 0, STATE_SIZE);
     Answer { code: 0, second: 0 }
 }
 

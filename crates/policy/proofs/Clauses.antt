@@ -1,6 +1,6 @@
 -- A list of clauses, as a chain of tests judges it: one clause that fails, or all that pass.
 use mathlib.Core.Path.{_≡_, refl, sym, ap, _∙_}
-use mathlib.Core.Bool.{Bool, true, false, _&&_, and-false}
+use mathlib.Core.Bool.{Bool, true, false, false≢true, _&&_, and-false}
 use mathlib.Core.List.{List, [], _∷_}
 use Rattle.model.specs.Lists.{every}
 
@@ -28,3 +28,12 @@ fails-at {A} clauses {read} e f = fails (clauses read) f ∙ ap (λ (x : A). eve
 
 pub passes-at : {A : Type 0} (clauses : A → List Bool) {read there : A} → read ≡ there → Passes (clauses read) → true ≡ every (clauses there)
 passes-at {A} clauses {read} e p = passes (clauses read) p ∙ ap (λ (x : A). every (clauses x)) e
+
+-- two clauses that are judged in one test: one of them is false, or both are true
+pub one-fails : (a b : Bool) → (a && b) ≡ false → Fails (a ∷ b ∷ [])
+one-fails true b e = later (here e)
+one-fails false b e = here refl
+
+pub both-pass : (a b : Bool) → (a && b) ≡ true → Passes (a ∷ b ∷ [])
+both-pass true b e = (refl, (e, tt))
+both-pass false b e = absurd (false≢true e)

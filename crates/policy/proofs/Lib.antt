@@ -1,6 +1,5 @@
 pub mod Clauses
-pub mod Parts
-pub mod Joined
+pub mod Mixed
 pub mod Unread
 pub mod Places
-pub mod Sixteen
+pub mod Rights

@@ -27,21 +27,6 @@ use model::RULE_WIDTH;
 
 const MODES: u16 = 3;
 
-// The numbers from a place on, as many as are asked for, are zero. They are joined and looked at once, so that the loop has no way out
-// but its end and the machine may take several numbers in one step.
-pub fn all_zero(numbers: &[u16], from: usize, count: usize) -> bool
-    requires { ⌜ from + count ≤ length (now numbers) ⌝ }
-    ensures { λ r. ⌜ r ≡ all isZero (take count (drop from (now (numbers .entry)))) ⌝ }
-{
-    let mut joined: u16 = 0;
-    let mut j: usize = 0;
-    while j < count {
-        joined = joined | numbers[from + j];
-        j += 1;
-    }
-    joined == 0
-}
-
 // Where the conditions that are kinds of the policy end.
 fn end_of_kinds(kinds: &[u16]) -> u16
     requires { ⌜ length (now kinds) / 7 ≤ mostKinds ⌝ }
@@ -51,7 +36,7 @@ fn end_of_kinds(kinds: &[u16]) -> u16
 }
 
 // "0 to 255 a role; 256 to 383 certificate kind .., which must be a row of the kinds table; 384 to 447 environment fact ..; 448 and above
-// malformed." The facts are the numbers that have 64 six times.
+// malformed." The facts begin at six times 64 and are 64, so one division knows them.
 fn condition_fits(kinds: &[u16], c: u16) -> bool
     requires { ⌜ length (now kinds) / 7 ≤ mostKinds ⌝ }
     ensures { λ r. ⌜ r ≡ conditionFits (kindsOnly (now (kinds .entry))) (meant c) ⌝ }
@@ -89,14 +74,14 @@ fn conditions_fit(kinds: &[u16], counting: &[u16], conditions: [u16; 8], n: usiz
     requires { ⌜ (length (now kinds) / 7 ≤ mostKinds) × Counting (now counting) × (n ≤ 8) ⌝ }
     ensures { λ r. ⌜ r ≡ (all (λ (c : ℕ). conditionFits (kindsOnly (now (kinds .entry))) (meant c)) (take n conditions) && all isZero (drop n conditions)) ⌝ }
 {
-    let mut over: u16 = 0;
+    let mut joined: u16 = 0;
     let mut j: usize = 0;
     while j < 8 {
         let c = conditions[j];
-        over = over | wrong(c, condition_fits(kinds, c), counting[8 - n + j] == 1);
+        joined = joined | wrong(c, condition_fits(kinds, c), counting[8 - n + j] == 1);
         j += 1;
     }
-    over == 0
+    joined == 0
 }
 
 // "target role, n, m, then eight conditions, those past n being 0. m ≤ n ≤ 8."
@@ -137,19 +122,19 @@ fn rules_fit(rules: &[u16], kinds: &[u16], counting: &[u16]) -> bool
     true
 }
 
-// The first n of the prerequisites are roles, and those past n are 0.
-fn roles_fit(counting: &[u16], prerequisites: [u16; 4], n: usize) -> bool
-    requires { ⌜ Counting (now counting) × (n ≤ 4) ⌝ }
-    ensures { λ r. ⌜ r ≡ (all (λ (q : ℕ). ltb q roles) (take n prerequisites) && all isZero (drop n prerequisites)) ⌝ }
+// The first s of the prerequisites are roles, and those past s are 0. What is wrong is joined, as for conditions.
+fn prerequisites_fit(counting: &[u16], prerequisites: [u16; 4], s: usize) -> bool
+    requires { ⌜ Counting (now counting) × (s ≤ 4) ⌝ }
+    ensures { λ r. ⌜ r ≡ (all (λ (q : ℕ). ltb q roles) (take s prerequisites) && all isZero (drop s prerequisites)) ⌝ }
 {
-    let mut over: u16 = 0;
+    let mut joined: u16 = 0;
     let mut j: usize = 0;
     while j < 4 {
         let q = prerequisites[j];
-        over = over | wrong(q, q < ROLES, counting[8 - n + j] == 1);
+        joined = joined | wrong(q, q < ROLES, counting[8 - s + j] == 1);
         j += 1;
     }
-    over == 0
+    joined == 0
 }
 
 // "appointer role, mode, s, then four prerequisite roles, those past s being 0. s ≤ 4."
@@ -168,8 +153,8 @@ fn kind_fits(kinds: &[u16], counting: &[u16], k: usize) -> bool
         return false;
     }
     let s = kind.s as usize;
-    let roles = kind.prerequisites;
-    if !roles_fit(counting, roles, s) {
+    let prerequisites = kind.prerequisites;
+    if !prerequisites_fit(counting, prerequisites, s) {
         return false;
     }
     true

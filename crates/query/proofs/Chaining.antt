@@ -22,7 +22,7 @@ use Rattle.model.proofs.Parts.{without-append}
 use Rattle.model.proofs.Support.{isRow-user, isRow-role, rests-on-active, row-role, row-supported}
 use Rattle.table.specs.Entries.{rowAt, firstRows}
 use Rattle.table.proofs.Entries.{rows-more}
-use Rattle.fall.specs.Writes.{Zeroed}
+use Rattle.table.specs.Writes.{Zeroed}
 use Rattle.rests.specs.Newest.{newest}
 use Rattle.rests.proofs.Newest.{row-for, newest-active, newest-within}
 use Rattle.query.proofs.Single.{sound-row, first-for, newest-stays}

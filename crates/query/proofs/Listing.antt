@@ -21,7 +21,7 @@ use Rattle.model.specs.declared.Row.{Row}
 use Rattle.model.proofs.Tests.{of-true, of-false}
 use Rattle.model.proofs.Numbers.{encode-decode, sound-formed}
 use Rattle.table.specs.Entries.{rowAt, firstRows, withoutRights}
-use Rattle.fall.specs.Writes.{Zeroed}
+use Rattle.table.specs.Writes.{Zeroed}
 use Rattle.inner.specs.Promise.{lent, AnswersWith}
 use Rattle.inner.proofs.Codes.{own-refuses, own-accepts, in-range, found, active-now}
 use Rattle.rests.specs.Newest.{newest}

@@ -186,7 +186,7 @@ pub fn chain(
         n += 1;
         q = rests::next_role(rules, kinds, table::row_at(state, k));
     }
-    fall::zero(list, n, LIST_SIZE);
+    table::zero(list, n, LIST_SIZE);
     Answer {
         code: 0,
         second: n as u16,

@@ -7,7 +7,7 @@ use mathlib.Core.List.{List, [], _∷_, List·Memᴰ, List·Memᴰ·head, List·
 use native.Mathlib.Omega.{arith}
 use lib.Dec.{eqb}
 use borrow.Author.Tests.{eqb-true, eqb-false}
-use lib.ListN.{length, getD, take, set, length-set}
+use lib.ListN.{length, getD, take, set, length-set, length-take}
 use lib.Seq.{getD-set-same, getD-set-other, getD-take}
 use Rattle.model.specs.Layout.{policyOf}
 use Rattle.model.specs.Conditions.{meant, rolesAsked}
@@ -114,7 +114,7 @@ module _ (kinds : List ℕ) where
   grown-within a b cs ms i m e l f g = record { size = g .size; closed = g .closed; keeps = g .keeps; only = λ q k h. go q (g .only q k h) }
     where
       count : length ms ≡ m
-      count = ap length (sym e) ∙ simp lib.ListN.length-take (omega arith)
+      count = ap length (sym e) ∙ simp length-take (omega arith)
 
       go : (q : ℕ) → (getD a q false ≡ true) ⊎ ((j : ℕ) × (j < i) × List·Memᴰ q (rolesAsked (policyOf (withoutRights [] kinds)) (meant (getD cs j 0)))) → (getD a q false ≡ true) ⊎ ((j : ℕ) × (j < length ms) × List·Memᴰ q (rolesAsked (policyOf (withoutRights [] kinds)) (meant (getD ms j 0))))
       go q (inl h) = inl h
@@ -124,18 +124,18 @@ module _ (kinds : List ℕ) where
 
   pub each-within : (b : List Bool) (cs ms : List ℕ) (m : ℕ) → take m cs ≡ ms → m ≤ length cs → ((j : ℕ) → j < m → HasAsked kinds b (getD cs j 0)) → (j : ℕ) → j < length ms → HasAsked kinds b (getD ms j 0)
   each-within b cs ms m e f h j l =
-      let count : length ms ≡ m = ap length (sym e) ∙ simp lib.ListN.length-take (omega arith) in
+      let count : length ms ≡ m = ap length (sym e) ∙ simp length-take (omega arith) in
       let within : j < m = omega (arith, count) in
       subst (λ (x : ℕ). HasAsked kinds b x) (sym (getD-take m cs j 0 within) ∙ ap (λ (l : List ℕ). getD l j 0) e) (h j within)
 
 -- ── the code's answers ──
 
-module _ (a : List Bool) (c w : ℕ) (size : length a ≡ 384) where
-  pub known-role : w ≡ c → c < 256 → Known a (set a w true) c true
-  known-role e l = record { known = λ z kinds h. role-asked kinds a c w size e l h; unknown = λ z. absurd (true≢false z) }
+module _ (a : List Bool) (c : ℕ) where
+  pub known-role : (w : ℕ) → length a ≡ 384 → w ≡ c → c < 256 → Known a (set a w true) c true
+  known-role w size e l = record { known = λ z kinds h. role-asked kinds a c w size e l h; unknown = λ z. absurd (true≢false z) }
 
-  pub known-kind : (r : Bool) → w ≡ c → r ≡ getD a w false → 256 ≤ c → c < 384 → Known a a c r
-  known-kind r e f k l =
+  pub known-kind : (w : ℕ) (r : Bool) → w ≡ c → r ≡ getD a w false → 256 ≤ c → c < 384 → Known a a c r
+  known-kind w r e f k l =
       let at : r ≡ getD a c false = f ∙ ap (λ (n : ℕ). getD a n false) e in
       record { known = λ z kinds h. nothing-added kinds a c h (h c k (sym at ∙ z)); unknown = λ z. (refl, k, l) }
 
@@ -204,7 +204,7 @@ kind-marked kinds a b roles n j c w size four few e all z k l h g =
       where
         here : (i : ℕ) × (i < length (take n roles)) × (q ≡ getD (take n roles) i 0) → getD b q false ≡ true
         here p =
-            let count : length (take n roles) ≡ n = simp lib.ListN.length-take (omega arith) in
+            let count : length (take n roles) ≡ n = simp length-take (omega arith) in
             let within : p .0 < n = omega (arith, count, p .1) in
             let at : q ≡ getD roles (p .0) 0 = p .2 ∙ getD-take n roles (p .0) 0 within in
             subst⁻¹ (λ (x : ℕ). getD b x false ≡ true) at (g .each (p .0) (omega (arith, within)) (subst (λ (x : ℕ). x < 256) at m))

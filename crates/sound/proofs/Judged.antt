@@ -20,7 +20,7 @@ use Rattle.model.proofs.Sweep.{left-whole}
 use Rattle.table.specs.Entries.{rowAt, firstRows, worldAt, Sized}
 use Rattle.table.proofs.Entries.{rows-more}
 use Rattle.support.specs.Verdicts.{kept, verdict, Judged}
-use Rattle.sound.specs.Named.{nameClauses, rowNamed, rulesOnly, isOne}
+use Rattle.sound.specs.Named.{nameClauses, rowNamed, rulesOnly, saidToStay}
 
 -- ── two parts of a test ──
 
@@ -69,25 +69,25 @@ said-one false false = refl
 
 module _ (w : World) (s verdicts : List ℕ) (judged : Judged w s verdicts) where
   -- where all rows before stay, they are what is left of themselves
-  row-stays : (k : ℕ) → suc k ≤ rowCount s → allOverEarlier (stays w) [] (firstRows s k) ≡ true → isOne (getD verdicts k 0) ≡ stays w (firstRows s k) (rowAt s k)
+  row-stays : (k : ℕ) → suc k ≤ rowCount s → allOverEarlier (stays w) [] (firstRows s k) ≡ true → saidToStay (getD verdicts k 0) ≡ stays w (firstRows s k) (rowAt s k)
   row-stays k h e =
       let t = earlier-map (stays w) (supported w) (λ earlier r u. and-right (not (active earlier (r .user) (r .role))) (supported w earlier r) u) [] (firstRows s k) (of-true (allOverEarlier (stays w) [] (firstRows s k)) e) in
       let whole : kept w s k ≡ firstRows s k = left-whole (supported w) (firstRows s k) t in
-      ap isOne (judged .said k (omega arith))
-      ∙ ap (λ (rows : List Row). isOne (verdict w rows (rowAt s k))) whole
+      ap saidToStay (judged .said k (omega arith))
+      ∙ ap (λ (rows : List Row). saidToStay (verdict w rows (rowAt s k))) whole
       ∙ said-one (active (firstRows s k) (rowAt s k .user) (rowAt s k .role)) (supported w (firstRows s k) (rowAt s k))
 
-  first-stay : (k : ℕ) → k ≤ rowCount s → rowCount s ≤ 256 → all isOne (take k verdicts) ≡ allOverEarlier (stays w) [] (firstRows s k)
+  first-stay : (k : ℕ) → k ≤ rowCount s → rowCount s ≤ 256 → all saidToStay (take k verdicts) ≡ allOverEarlier (stays w) [] (firstRows s k)
   unfolding firstRows
   first-stay zero h few = refl
   first-stay (suc k) h few =
-      ap (all isOne) (take-suc verdicts k 0 (omega (arith, judged .size)))
-      ∙ all-append isOne (take k verdicts) (getD verdicts k 0 ∷ [])
-      ∙ ap (λ (b : Bool). b && (isOne (getD verdicts k 0) && true)) (first-stay k (omega arith) few)
+      ap (all saidToStay) (take-suc verdicts k 0 (omega (arith, judged .size)))
+      ∙ all-append saidToStay (take k verdicts) (getD verdicts k 0 ∷ [])
+      ∙ ap (λ (b : Bool). b && (saidToStay (getD verdicts k 0) && true)) (first-stay k (omega arith) few)
       ∙ go (allOverEarlier (stays w) [] (firstRows s k)) (row-stays k h)
       ∙ sym (ap (allOverEarlier (stays w) []) (rows-more s k) ∙ earlier-append (stays w) [] (firstRows s k) (rowAt s k ∷ []))
     where
-      go : (b : Bool) → (b ≡ true → isOne (getD verdicts k 0) ≡ stays w (firstRows s k) (rowAt s k)) → (b && (isOne (getD verdicts k 0) && true)) ≡ (b && (stays w (firstRows s k) (rowAt s k) && true))
+      go : (b : Bool) → (b ≡ true → saidToStay (getD verdicts k 0) ≡ stays w (firstRows s k) (rowAt s k)) → (b && (saidToStay (getD verdicts k 0) && true)) ≡ (b && (stays w (firstRows s k) (rowAt s k) && true))
       go true f = ap (λ (b : Bool). b && true) (f refl)
       go false f = refl
 
@@ -104,9 +104,9 @@ module _ (rules kinds s : List ℕ) where
   rows-unnamed e = state-parts ∙ ap (λ (b : Bool). b && allOverEarlier (stays (worldAt rules kinds s)) [] (decode s .rows)) e
 
   -- and rows that are are sound if of each it is said that it stays
-  pub rows-judged : (verdicts : List ℕ) (n : ℕ) → n ≡ rowCount s → Sized s → all (rowNamed (rulesOnly rules)) (decode s .rows) ≡ true → Judged (worldAt rules kinds s) s verdicts → all isOne (take n verdicts) ≡ allOverEarlier (rowSound (worldAt rules kinds s)) [] (decode s .rows)
+  pub rows-judged : (verdicts : List ℕ) (n : ℕ) → n ≡ rowCount s → Sized s → all (rowNamed (rulesOnly rules)) (decode s .rows) ≡ true → Judged (worldAt rules kinds s) s verdicts → all saidToStay (take n verdicts) ≡ allOverEarlier (rowSound (worldAt rules kinds s)) [] (decode s .rows)
   unfolding decode firstRows
   rows-judged verdicts n count z e judged =
-      ap (λ (k : ℕ). all isOne (take k verdicts)) count
+      ap (λ (k : ℕ). all saidToStay (take k verdicts)) count
       ∙ first-stay (worldAt rules kinds s) s verdicts judged (rowCount s) (omega arith) (z .rows)
       ∙ sym (state-parts ∙ ap (λ (b : Bool). b && allOverEarlier (stays (worldAt rules kinds s)) [] (decode s .rows)) e)

@@ -16,6 +16,7 @@ use Rattle.table.specs.Entries.{withoutRights}
 abbrev pub rulesOnly : List ℕ → Policy
 rulesOnly rules = policyOf (withoutRights rules [])
 
+-- "ranges are kept, .. each active row's rule exists and has that role as target"
 unfoldable pub nameClauses : Policy → Row → List Bool
 nameClauses p r =
     ltb (r .user) users
@@ -27,5 +28,6 @@ nameClauses p r =
 abbrev pub rowNamed : Policy → Row → Bool
 rowNamed p r = every (nameClauses p r)
 
-abbrev pub isOne : ℕ → Bool
-isOne v = eqb v 1
+-- the verdict on a row is that it stays
+abbrev pub saidToStay : ℕ → Bool
+saidToStay v = eqb v 1

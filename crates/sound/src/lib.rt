@@ -12,7 +12,7 @@ ghost use Rattle.table.specs.Entries.{certificateAt, firstCertificates, without
 ghost use Rattle.index.specs.Owned.{CertificatesInRange};
 ghost use Rattle.policy.specs.Lent.{kindsOnly};
 ghost use Rattle.sound.specs.Seen.{beginning, bits, Seen};
-ghost use Rattle.sound.specs.Named.{rowNamed, rulesOnly, isOne};
+ghost use Rattle.sound.specs.Named.{rowNamed, rulesOnly, saidToStay};
 use model::CERTIFICATE_COUNT_AT;
 use model::CERTIFICATE_WIDTH;
 use model::CERTIFICATES_AT;
@@ -66,11 +66,15 @@ fn well_formed(state: &[u16]) -> bool
         return false;
     }
     let used = rows * ROW_WIDTH;
-    if !policy::all_zero(state, ROWS_AT + used, 768 - used) {
+    if !table::all_zero(state, ROWS_AT + used, MOST_ROWS * ROW_WIDTH - used) {
         return false;
     }
     let standing = certificates * CERTIFICATE_WIDTH;
-    if !policy::all_zero(state, CERTIFICATES_AT + standing, 768 - standing) {
+    if !table::all_zero(
+        state,
+        CERTIFICATES_AT + standing,
+        MOST_CERTIFICATES * CERTIFICATE_WIDTH - standing,
+    ) {
         return false;
     }
     true
@@ -205,7 +209,7 @@ fn rows_named(rules: &[u16], state: &[u16]) -> bool
 // Each of the first n rows stays, and none stands twice.
 fn each_stays(verdicts: &[u8], n: usize) -> bool
     requires { ⌜ n ≤ length (now verdicts) ⌝ }
-    ensures { λ r. ⌜ r ≡ all isOne (take n (now (verdicts .entry))) ⌝ }
+    ensures { λ r. ⌜ r ≡ all saidToStay (take n (now (verdicts .entry))) ⌝ }
 {
     let mut i: usize = 0;
     while i < n {

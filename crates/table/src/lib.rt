@@ -1,13 +1,15 @@
-// Reading the lent tables. Every index is bounded before it is used: lent tables hold any numbers.
+// Reading the lent tables, and writing their numbers. Every index is bounded before it is used: lent tables hold any numbers.
 ghost use mathlib.Core.List.{[]};
 ghost use mathlib.Core.Path.{_≡_};
-ghost use Prim.Native.Nat.{_/_, _<_, _≤_, min};
-ghost use lib.ListN.{length};
+ghost use Prim.Native.Nat.{_+_, _/_, _<_, _≤_, min};
+ghost use lib.ListN.{length, take, drop};
+ghost use Rattle.model.specs.Lists.{all, isZero};
 ghost use Rattle.model.specs.Limits.{ruleWidth, kindWidth, rightWidth, stateSize, mostRows, mostCertificates};
 ghost use Rattle.model.specs.Layout.{policyOf};
 ghost use Rattle.model.specs.Conditions.{isRow, active, kindNumbered, ruleNumbered};
 ghost use Rattle.model.specs.Sound.{sameCertificate};
 ghost use Rattle.table.specs.Entries.{ruleAt, kindAt, rightAt, rowAt, firstRows, certificateAt, withoutRights};
+ghost use Rattle.table.specs.Writes.{Moved, Zeroed};
 use model::CERTIFICATE_WIDTH;
 use model::CERTIFICATES_AT;
 use model::Certificate;
@@ -180,4 +182,43 @@ pub fn is_active(state: &[u16], k: usize, user: u16, role: u16) -> bool
         j += 1;
     }
     false
+}
+
+// The numbers from a place on, as many as are asked for, are zero. They are joined and looked at once, so that the loop has no way out
+// but its end and the machine may take several numbers in one step.
+pub fn all_zero(numbers: &[u16], from: usize, count: usize) -> bool
+    requires { ⌜ from + count ≤ length (now numbers) ⌝ }
+    ensures { λ r. ⌜ r ≡ all isZero (take count (drop from (now (numbers .entry)))) ⌝ }
+{
+    let mut joined: u16 = 0;
+    let mut j: usize = 0;
+    while j < count {
+        joined = joined | numbers[from + j];
+        j += 1;
+    }
+    joined == 0
+}
+
+// The numbers from a place up to another become zero.
+pub fn zero(numbers: &mut [u16], from: usize, end: usize)
+    requires { ⌜ (from ≤ end) × (end ≤ length (now numbers)) ⌝ }
+    ensures { λ r. ⌜ Zeroed (now (numbers .entry)) (now (numbers .exit)) from end ⌝ }
+{
+    let mut p = from;
+    while p < end {
+        numbers[p] = 0;
+        p += 1;
+    }
+}
+
+// The numbers from `from` on, as many as are asked for, are moved down to `to`.
+pub fn move_down(numbers: &mut [u16], from: usize, to: usize, count: usize)
+    requires { ⌜ (to ≤ from) × (from + count ≤ length (now numbers)) ⌝ }
+    ensures { λ r. ⌜ Moved (now (numbers .entry)) (now (numbers .exit)) from to count ⌝ }
+{
+    let mut p: usize = 0;
+    while p < count {
+        numbers[to + p] = numbers[from + p];
+        p += 1;
+    }
 }

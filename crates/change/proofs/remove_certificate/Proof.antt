@@ -3,7 +3,7 @@ use mathlib.Core.Path.{_≡_, _∙_}
 use native.Mathlib.Omega.{arith}
 use lib.ListN.{length-set}
 use Rattle.model.specs.Layout.{certificateCount}
-use Rattle.fall.proofs.Form.{formed}
+use Rattle.table.proofs.Form.{formed}
 use Rattle.change.proofs.Changed.{certificate-removed}
 use borrow.Author.Needs.{needs}
 use Rattle.change.proofs.remove_certificate.Statement.{statement}

@@ -10,7 +10,7 @@ use Rattle.model.specs.declared.Row.{Row}
 use Rattle.table.specs.Entries.{rowAt, firstRows}
 use Rattle.table.proofs.Entries.{sized}
 use Rattle.fall.specs.Changes.{Settled, Swept}
-use Rattle.fall.proofs.Form.{formed}
+use Rattle.table.proofs.Form.{formed}
 use Rattle.fall.proofs.Swept.{swept-none, swept-more, swept-sized, swept-row, swept-closed, staying-without}
 use borrow.Author.Needs.{needs}
 use Rattle.fall.proofs.drop_user.Statement.{statement}

@@ -3,7 +3,7 @@ use native.Mathlib.Omega.{arith}
 use Rattle.model.specs.Layout.{decode, rowCount}
 use Rattle.table.specs.Entries.{firstRows, worldAt}
 use Rattle.fall.specs.Changes.{isKept}
-use Rattle.fall.proofs.Form.{formed}
+use Rattle.table.proofs.Form.{formed}
 use Rattle.fall.proofs.Swept.{swept-closed, none-left, staying-left}
 use borrow.Author.Needs.{needs}
 use Rattle.fall.proofs.fall.Statement.{statement}

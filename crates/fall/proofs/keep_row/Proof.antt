@@ -1,9 +1,9 @@
 use Prim.Native.Nat.{ℕ}
 use mathlib.Core.Path.{_≡_, subst}
 use native.Mathlib.Omega.{arith}
-use Rattle.fall.specs.Writes.{Moved}
+use Rattle.table.specs.Writes.{Moved}
 use Rattle.fall.specs.Changes.{rowPlace}
-use Rattle.fall.proofs.Moves.{moved-still}
+use Rattle.table.proofs.Writes.{moved-still}
 use borrow.Author.Needs.{needs}
 use Rattle.fall.proofs.keep_row.Statement.{statement}
 use Rattle.fall.proofs.keep_row.Tie as tie

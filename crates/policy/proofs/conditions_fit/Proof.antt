@@ -12,7 +12,7 @@ use Rattle.model.specs.Conditions.{meant}
 use Rattle.model.specs.Sound.{conditionFits}
 use Rattle.policy.specs.Lent.{kindsOnly}
 use Rattle.policy.proofs.Places.{unfit-not-zero}
-use Rattle.policy.proofs.Joined.{mixed, mixed-parts, mixed-more}
+use Rattle.policy.proofs.Mixed.{mixed, mixed-parts, mixed-more}
 use borrow.Author.Needs.{needs}
 use Rattle.policy.proofs.conditions_fit.Statement.{statement}
 use Rattle.policy.proofs.conditions_fit.Tie as tie
@@ -21,10 +21,10 @@ abbrev fits : List ℕ → ℕ → Bool
 fits kinds c = conditionFits (kindsOnly kinds) (meant c)
 
 abbrev Inv-loop : tie.InvT-loop
-Inv-loop kinds counting n conditions over₀ j₀ over j = (j ≤ 8) × (eqb over 0 ≡ mixed (fits kinds) n (take j conditions))
+Inv-loop kinds counting n conditions joined₀ j₀ joined j = (j ≤ 8) × (eqb joined 0 ≡ mixed (fits kinds) n (take j conditions))
 
 abbrev μ-loop : tie.MeasureT-loop
-μ-loop kinds counting n conditions over₀ j₀ over j = 8 - j
+μ-loop kinds counting n conditions joined₀ j₀ joined j = 8 - j
 
 loop-holds : tie.Need-loop-holds Inv-loop μ-loop
 loop-holds c = (search needs, refl)
@@ -60,7 +60,7 @@ loop-less : tie.Need-loop-less Inv-loop μ-loop
 loop-less c = search needs
 
 loop-again : tie.Need-loop-again Inv-loop μ-loop
-loop-again c = (search needs, mixed-more (fits (c .before .before .before .before .before .before .before .args .kinds .now)) (c .before .before .before .before .before .before .before .args .n) (c .before .before .before .before .loop .j) (c .before .before .before .before .loop .over) (c .wrong .result) (c .before .before .before .before .before .before .before .args .t3) (search needs) (c .before .before .before .before .loop .inv .1) (c .wrong .ensures ∙ (λ i. cond (c .before .before .before .before .before .before .before .pre .1 .each (c .before .before .before .before .before .before .before .args .n) (c .before .before .before .before .loop .j) (c .before .before .before .before .before .before .before .pre .2) (c .before .before .before .loop-test .taken) i) (c .before .before .condition-fits .ensures i) (isZero (getD (c .before .before .before .before .before .before .before .args .t3) (c .before .before .before .before .loop .j) 0)))))
+loop-again c = (search needs, mixed-more (fits (c .before .before .before .before .before .before .before .args .kinds .now)) (c .before .before .before .before .before .before .before .args .n) (c .before .before .before .before .loop .j) (c .before .before .before .before .loop .joined) (c .wrong .result) (c .before .before .before .before .before .before .before .args .t3) (search needs) (c .before .before .before .before .loop .inv .1) (c .wrong .ensures ∙ (λ i. cond (c .before .before .before .before .before .before .before .pre .1 .each (c .before .before .before .before .before .before .before .args .n) (c .before .before .before .before .loop .j) (c .before .before .before .before .before .before .before .pre .2) (c .before .before .before .loop-test .taken) i) (c .before .before .condition-fits .ensures i) (isZero (getD (c .before .before .before .before .before .before .before .args .t3) (c .before .before .before .before .loop .j) 0)))))
 
 returns : tie.Need-returns Inv-loop μ-loop
 returns c =

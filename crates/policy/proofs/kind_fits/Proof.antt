@@ -1,8 +1,7 @@
 use mathlib.Core.Path.{sym, _∙_}
 use borrow.Author.Tests.{lt-ltb, le-ltb, le-leb, lt-leb, not-true, not-false}
 use Rattle.model.specs.Sound.{kindClauses}
-use Rattle.policy.proofs.Clauses.{here, later, fails-at, passes-at}
-use Rattle.policy.proofs.Joined.{one-fails, both-hold}
+use Rattle.policy.proofs.Clauses.{here, later, fails-at, passes-at, one-fails, both-pass}
 use borrow.Author.Needs.{needs}
 use Rattle.policy.proofs.kind_fits.Statement.{statement}
 use Rattle.policy.proofs.kind_fits.Tie as tie
@@ -25,18 +24,16 @@ returns-3 c = fails-at kindClauses (c .before .before .before .before .before .b
 cast-s : tie.Need-cast-s
 cast-s c = search needs
 
-roles-fit-requires : tie.Need-roles-fit-requires
-roles-fit-requires c κs = search needs
+prerequisites-fit-requires : tie.Need-prerequisites-fit-requires
+prerequisites-fit-requires c κs = search needs
 
 returns-4 : tie.Need-returns-4
 unfolding kindClauses
-returns-4 c = fails-at kindClauses (c .before .before .before .before .before .before .before .before .before .before .kind-at .ensures) (later (later (later (one-fails _ _ (sym (c .before .roles-fit .ensures) ∙ not-true _ (c .if4 .taken))))))
+returns-4 c = fails-at kindClauses (c .before .before .before .before .before .before .before .before .before .before .kind-at .ensures) (later (later (later (one-fails _ _ (sym (c .before .prerequisites-fit .ensures) ∙ not-true _ (c .if4 .taken))))))
 
 returns-5 : tie.Need-returns-5
 unfolding kindClauses
-returns-5 c =
-    let h = both-hold _ _ (sym (c .before .roles-fit .ensures) ∙ not-false _ (c .if4 .left)) in
-    passes-at kindClauses (c .before .before .before .before .before .before .before .before .before .before .kind-at .ensures) (lt-ltb _ _ (c .before .before .before .before .before .before .before .before .if1 .left), (lt-ltb _ _ (c .before .before .before .before .before .before .if2 .left), (le-leb _ _ (c .before .before .before .before .if3 .left), (h .0, (h .1, tt)))))
+returns-5 c = passes-at kindClauses (c .before .before .before .before .before .before .before .before .before .before .kind-at .ensures) (lt-ltb _ _ (c .before .before .before .before .before .before .before .before .if1 .left), (lt-ltb _ _ (c .before .before .before .before .before .before .if2 .left), (le-leb _ _ (c .before .before .before .before .if3 .left), both-pass _ _ (sym (c .before .prerequisites-fit .ensures) ∙ not-false _ (c .if4 .left)))))
 
 pub kind-fits-spec : {M : Type 1} → statement M
 kind-fits-spec =
@@ -47,6 +44,6 @@ kind-fits-spec =
     returns-2
     returns-3
     cast-s
-    roles-fit-requires
+    prerequisites-fit-requires
     returns-4
     returns-5)

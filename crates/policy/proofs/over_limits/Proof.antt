@@ -5,7 +5,7 @@ use mathlib.Core.Logic.{⊎-elim}
 use native.Mathlib.Omega.{arith}
 use lib.Dec.{eqb}
 use Rattle.policy.specs.Counting.{keeps}
-use Rattle.policy.proofs.Sixteen.{keeps-over, keeps-within}
+use Rattle.policy.proofs.Rights.{keeps-over, keeps-within}
 use borrow.Author.Needs.{needs}
 use Rattle.policy.proofs.over_limits.Statement.{statement}
 use Rattle.policy.proofs.over_limits.Tie as tie

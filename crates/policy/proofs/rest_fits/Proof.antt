@@ -5,8 +5,7 @@ use native.Mathlib.Omega.{arith}
 use lib.Dec.{eqb}
 use lib.ListN.{length}
 use Rattle.model.specs.Layout.{policyOf}
-use Rattle.policy.proofs.Joined.{right-more}
-use Rattle.policy.proofs.Sixteen.{firstFit}
+use Rattle.policy.proofs.Rights.{firstFit, right-more}
 use borrow.Author.Needs.{needs}
 use Rattle.policy.proofs.rest_fits.Statement.{statement}
 use Rattle.policy.proofs.rest_fits.Tie as tie

@@ -6,7 +6,7 @@ use native.Mathlib.Omega.{arith}
 use lib.ListN.{length}
 use borrow.Author.Tests.{eq-eqb, ne-eqb}
 use Rattle.model.specs.Layout.{policyOf}
-use Rattle.policy.proofs.Sixteen.{firstFit, unfit-stays, fit-sixteen}
+use Rattle.policy.proofs.Rights.{firstFit, unfit-stays, fit-sixteen}
 use borrow.Author.Needs.{needs}
 use Rattle.policy.proofs.rights_fit.Statement.{statement}
 use Rattle.policy.proofs.rights_fit.Tie as tie

@@ -3,8 +3,7 @@ use native.Mathlib.Omega.{arith}
 use borrow.Author.Tests.{lt-ltb, le-ltb, le-leb, lt-leb, not-true, not-false}
 use Rattle.model.specs.Sound.{ruleClauses}
 use Rattle.policy.specs.Lent.{kindsOnly}
-use Rattle.policy.proofs.Clauses.{here, later, fails-at, passes-at}
-use Rattle.policy.proofs.Joined.{one-fails, both-hold}
+use Rattle.policy.proofs.Clauses.{here, later, fails-at, passes-at, one-fails, both-pass}
 use borrow.Author.Needs.{needs}
 use Rattle.policy.proofs.rule_fits.Statement.{statement}
 use Rattle.policy.proofs.rule_fits.Tie as tie
@@ -36,9 +35,7 @@ returns-4 c = fails-at (ruleClauses (kindsOnly (c .before .before .before .befor
 
 returns-5 : tie.Need-returns-5
 unfolding ruleClauses
-returns-5 c =
-    let h = both-hold _ _ (sym (c .before .conditions-fit .ensures) ∙ not-false _ (c .if4 .left)) in
-    passes-at (ruleClauses (kindsOnly (c .before .before .before .before .before .before .before .before .before .before .before .before .before .before .args .kinds .now))) (c .before .before .before .before .before .before .before .before .before .before .rule-at .ensures) (lt-ltb _ _ (c .before .before .before .before .before .before .before .before .if1 .left), (le-leb _ _ (c .before .before .before .before .before .before .if2 .left), (le-leb _ _ (c .before .before .before .before .if3 .left), (h .0, (h .1, tt)))))
+returns-5 c = passes-at (ruleClauses (kindsOnly (c .before .before .before .before .before .before .before .before .before .before .before .before .before .before .args .kinds .now))) (c .before .before .before .before .before .before .before .before .before .before .rule-at .ensures) (lt-ltb _ _ (c .before .before .before .before .before .before .before .before .if1 .left), (le-leb _ _ (c .before .before .before .before .before .before .if2 .left), (le-leb _ _ (c .before .before .before .before .if3 .left), both-pass _ _ (sym (c .before .conditions-fit .ensures) ∙ not-false _ (c .if4 .left)))))
 
 pub rule-fits-spec : {M : Type 1} → statement M
 rule-fits-spec =

@@ -23,10 +23,10 @@ slice-read-result : tie.Need-slice-read-result
 slice-read-result c = search needs
 
 returns-2 : tie.Need-returns-2
-returns-2 c = known-kind (c .before .before .before .before .before .args .asked .now) (c .before .before .before .before .before .args .c) (c .before .wide2 .result) (c .before .before .before .before .before .pre) _ (c .before .wide2 .ensures) refl (c .before .before .before .if1 .left) (c .before .before .if2 .taken)
+returns-2 c = known-kind (c .before .before .before .before .before .args .asked .now) (c .before .before .before .before .before .args .c) (c .before .wide2 .result) _ (c .before .wide2 .ensures) refl (c .before .before .before .if1 .left) (c .before .before .if2 .taken)
 
 returns-3 : tie.Need-returns-3
-returns-3 c = known-fact (c .before .before .before .args .asked .now) (c .before .before .before .args .c) 0 (c .before .before .before .pre) (c .if2 .left)
+returns-3 c = known-fact (c .before .before .before .args .asked .now) (c .before .before .before .args .c) (c .if2 .left)
 
 pub ask-known-spec : {M : Type 1} → statement M
 ask-known-spec =

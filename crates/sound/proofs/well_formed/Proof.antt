@@ -6,7 +6,7 @@ use Rattle.model.specs.Lists.{all, isZero}
 use Rattle.model.specs.Layout.{rowCount, certificateCount}
 use Rattle.model.specs.Sound.{formClauses}
 use Rattle.policy.proofs.Clauses.{here, later, fails, passes}
-use Rattle.policy.proofs.Parts.{past}
+use Rattle.table.proofs.Zeros.{past}
 use borrow.Author.Needs.{needs}
 use Rattle.sound.proofs.well_formed.Statement.{statement}
 use Rattle.sound.proofs.well_formed.Tie as tie
@@ -42,6 +42,9 @@ mul-used c = search needs
 add-all-zero : tie.Need-add-all-zero
 add-all-zero c = search needs
 
+mul-all-zero : tie.Need-mul-all-zero
+mul-all-zero c = search needs
+
 sub-all-zero : tie.Need-sub-all-zero
 sub-all-zero c = search needs
 
@@ -59,6 +62,9 @@ mul-standing c = search needs
 
 add-all-zero-2 : tie.Need-add-all-zero-2
 add-all-zero-2 c = search needs
+
+mul-all-zero-2 : tie.Need-mul-all-zero-2
+mul-all-zero-2 c = search needs
 
 sub-all-zero-2 : tie.Need-sub-all-zero-2
 sub-all-zero-2 c = search needs
@@ -113,11 +119,13 @@ well-formed-spec =
     returns-4
     mul-used
     add-all-zero
+    mul-all-zero
     sub-all-zero
     all-zero-requires
     returns-5
     mul-standing
     add-all-zero-2
+    mul-all-zero-2
     sub-all-zero-2
     all-zero-requires-2
     returns-6

@@ -1,19 +1,24 @@
--- Rights that are judged by their numbers, several at a time.
-use Prim.Native.Nat.{ℕ, zero, suc, _+_, _*_, _≤_, _<_}
+-- Rights that are judged by their numbers: sixteen at a time, and then one by one.
+use Prim.Native.Nat.{ℕ, zero, suc, _+_, _*_, _/_, _≤_, _<_}
 use mathlib.Core.Path.{_≡_, refl, sym, ap, _∙_}
-use mathlib.Core.Bool.{Bool, true, false, _&&_, and-true, and-false}
+use mathlib.Core.Bool.{Bool, true, false, _&&_, and-true, and-false, and-assoc}
+use mathlib.Core.Logic.{_⊎_, inl, inr}
 use mathlib.Core.List.{List, [], _∷_}
 use native.Mathlib.Omega.{arith}
+use native.Mathlib.Nat.{div-eq-of-lt, le-div-iff-mul-le}
 use native.Mathlib.Numerals.{add-one}
-use lib.Dec.{ltb}
-use borrow.Author.Tests.{lt-ltb, le-ltb}
+use lib.Bits.{bitOr}
+use lib.Dec.{eqb, ltb}
+use borrow.Author.Tests.{eq-eqb, ne-eqb, lt-ltb, le-ltb}
 use lib.ListN.{getD}
 use Rattle.model.specs.Lists.{all}
 use Rattle.model.specs.Layout.{rightFrom}
 use Rattle.model.specs.Sound.{rightClauses, rightFits}
-use Rattle.model.proofs.Tests.{all-append}
+use Rattle.model.specs.declared.Right.{Right}
+use Rattle.model.proofs.Tests.{all-append, lt-or-ge}
 use Rattle.table.specs.Entries.{entries, entry, rightAt}
 use Rattle.table.proofs.Entries.{entries-more, right-places}
+use Rattle.table.proofs.Zeros.{join-zero}
 use Rattle.policy.specs.Counting.{RightLimits, keeps}
 
 module _ (rights : List ℕ) where
@@ -79,3 +84,26 @@ module _ (rights limits : List ℕ) (from j : ℕ) where
 
   pub keeps-within : (b : Bool) → getD rights (from + j) 0 < getD limits j 0 → b ≡ keeps rights limits from j → b ≡ keeps rights limits from (j + 1)
   keeps-within b h e = e ∙ sym (next ∙ ap (λ (a : Bool). keeps rights limits from j && a) (lt-ltb (getD rights (from + j) 0) (getD limits j 0) h) ∙ and-true (keeps rights limits from j))
+
+-- ── right by right ──
+
+-- a number leaves nothing over exactly if it is below the limit
+none-over : (x limit : ℕ) → 0 < limit → eqb (x / limit) 0 ≡ ltb x limit
+none-over x limit p = go (lt-or-ge x limit)
+  where
+    go : (x < limit) ⊎ (limit ≤ x) → eqb (x / limit) 0 ≡ ltb x limit
+    go (inl h) = eq-eqb (x / limit) 0 (div-eq-of-lt h) ∙ sym (lt-ltb x limit h)
+    go (inr h) = ne-eqb (x / limit) 0 (λ e. omega (arith, e, le-div-iff-mul-le {x = 1} {y = x} p .1 (omega (arith, h)))) ∙ sym (le-ltb x limit h)
+
+right-over : (over : ℕ) (r : Right) → eqb (bitOr (bitOr over (r .role / 256)) (r .privilege / 1024)) 0 ≡ (eqb over 0 && rightFits r)
+unfolding rightClauses
+right-over over r =
+    join-zero (bitOr over (r .role / 256)) (r .privilege / 1024)
+    ∙ (λ i. join-zero over (r .role / 256) i && none-over (r .privilege) 1024 (omega arith) i)
+    ∙ (λ i. (eqb over 0 && none-over (r .role) 256 (omega arith) i) && ltb (r .privilege) 1024)
+    ∙ and-assoc (eqb over 0) (ltb (r .role) 256) (ltb (r .privilege) 1024)
+    ∙ ap (λ (v : Bool). eqb over 0 && (ltb (r .role) 256 && v)) (sym (and-true (ltb (r .privilege) 1024)))
+
+-- one right more, judged by what its numbers leave over
+pub right-more : (rights : List ℕ) (i over : ℕ) (r : Right) → r ≡ rightAt rights i → eqb over 0 ≡ firstFit rights i → eqb (bitOr (bitOr over (r .role / 256)) (r .privilege / 1024)) 0 ≡ firstFit rights (i + 1)
+right-more rights i over r e h = right-over over r ∙ (λ k. h k && rightFits (e k)) ∙ sym (fit-next rights i)

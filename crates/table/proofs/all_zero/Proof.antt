@@ -5,10 +5,10 @@ use native.Mathlib.Omega.{arith}
 use lib.Dec.{eqb}
 use lib.ListN.{take, drop}
 use Rattle.model.specs.Lists.{all, isZero}
-use Rattle.policy.proofs.Joined.{zero-more}
+use Rattle.table.proofs.Zeros.{zero-more}
 use borrow.Author.Needs.{needs}
-use Rattle.policy.proofs.all_zero.Statement.{statement}
-use Rattle.policy.proofs.all_zero.Tie as tie
+use Rattle.table.proofs.all_zero.Statement.{statement}
+use Rattle.table.proofs.all_zero.Tie as tie
 
 abbrev Inv-loop : tie.InvT-loop
 Inv-loop numbers from count joined₀ j₀ joined j = (j ≤ count) × (eqb joined 0 ≡ all isZero (take j (drop from numbers)))

@@ -7,7 +7,7 @@ use native.Mathlib.Omega.{arith}
 use lib.ListN.{length, getD, set, length-set}
 use lib.Seq.{getD-set-same, getD-set-other}
 use Rattle.model.proofs.Tests.{lt-or-ge}
-use Rattle.fall.specs.Writes.{Moved, Zeroed}
+use Rattle.table.specs.Writes.{Moved, Zeroed}
 
 pub moved-none : (s : List ℕ) (from to : ℕ) → Moved s s from to 0
 moved-none s from to = record { size = refl; below = λ k h. refl; above = λ k h. refl; inside = λ k h. absurd (omega arith) }

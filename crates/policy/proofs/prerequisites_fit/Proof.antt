@@ -1,4 +1,4 @@
--- The invariant: what is wrong with the roles passed is joined, and it is zero exactly if nothing is.
+-- The invariant: what is wrong with the prerequisites passed is joined, and it is zero exactly if nothing is.
 use Prim.Native.Nat.{ℕ, _≤_, _-_}
 use mathlib.Core.Path.{_≡_, refl, ap, _∙_}
 use mathlib.Core.Bool.{Bool, cond}
@@ -7,20 +7,20 @@ use lib.Dec.{eqb, ltb}
 use lib.ListN.{length, take, getD}
 use lib.Seq.{take-all}
 use Rattle.model.specs.Lists.{isZero}
-use Rattle.policy.proofs.Joined.{mixed, mixed-parts, mixed-more}
+use Rattle.policy.proofs.Mixed.{mixed, mixed-parts, mixed-more}
 use Rattle.policy.proofs.Places.{beyond-not-zero}
 use borrow.Author.Needs.{needs}
-use Rattle.policy.proofs.roles_fit.Statement.{statement}
-use Rattle.policy.proofs.roles_fit.Tie as tie
+use Rattle.policy.proofs.prerequisites_fit.Statement.{statement}
+use Rattle.policy.proofs.prerequisites_fit.Tie as tie
 
 abbrev fits : ℕ → Bool
 fits q = ltb q 256
 
 abbrev Inv-loop : tie.InvT-loop
-Inv-loop counting n prerequisites over₀ j₀ over j = (j ≤ 4) × (eqb over 0 ≡ mixed fits n (take j prerequisites))
+Inv-loop counting s prerequisites joined₀ j₀ joined j = (j ≤ 4) × (eqb joined 0 ≡ mixed fits s (take j prerequisites))
 
 abbrev μ-loop : tie.MeasureT-loop
-μ-loop counting n prerequisites over₀ j₀ over j = 4 - j
+μ-loop counting s prerequisites joined₀ j₀ joined j = 4 - j
 
 loop-holds : tie.Need-loop-holds Inv-loop μ-loop
 loop-holds c = (search needs, refl)
@@ -53,16 +53,16 @@ loop-less : tie.Need-loop-less Inv-loop μ-loop
 loop-less c = search needs
 
 loop-again : tie.Need-loop-again Inv-loop μ-loop
-loop-again c = (search needs, mixed-more fits (c .before .before .before .before .before .args .n) (c .before .before .before .loop .j) (c .before .before .before .loop .over) (c .wrong .result) (c .before .before .before .before .before .args .t2) (search needs) (c .before .before .before .loop .inv .1) (c .wrong .ensures ∙ ap (λ (b : Bool). cond b (ltb (getD (c .before .before .before .before .before .args .t2) (c .before .before .before .loop .j) 0) 256) (isZero (getD (c .before .before .before .before .before .args .t2) (c .before .before .before .loop .j) 0))) (c .before .before .before .before .before .pre .0 .each (c .before .before .before .before .before .args .n) (c .before .before .before .loop .j) (omega (arith, c .before .before .before .before .before .pre .1)) (omega arith))))
+loop-again c = (search needs, mixed-more fits (c .before .before .before .before .before .args .s) (c .before .before .before .loop .j) (c .before .before .before .loop .joined) (c .wrong .result) (c .before .before .before .before .before .args .t2) (search needs) (c .before .before .before .loop .inv .1) (c .wrong .ensures ∙ ap (λ (b : Bool). cond b (ltb (getD (c .before .before .before .before .before .args .t2) (c .before .before .before .loop .j) 0) 256) (isZero (getD (c .before .before .before .before .before .args .t2) (c .before .before .before .loop .j) 0))) (c .before .before .before .before .before .pre .0 .each (c .before .before .before .before .before .args .s) (c .before .before .before .loop .j) (omega (arith, c .before .before .before .before .before .pre .1)) (omega arith))))
 
 returns : tie.Need-returns Inv-loop μ-loop
 returns c =
     let e : c .before .loop .j ≡ 4 = omega arith in
     let z : length (c .before .before .before .args .t2) ≡ 4 = search needs in
-    c .before .loop .inv .1 ∙ ap (mixed fits (c .before .before .before .args .n)) (take-all (c .before .loop .j) (c .before .before .before .args .t2) (omega (arith, e, z))) ∙ mixed-parts fits (c .before .before .before .args .n) (c .before .before .before .args .t2)
+    c .before .loop .inv .1 ∙ ap (mixed fits (c .before .before .before .args .s)) (take-all (c .before .loop .j) (c .before .before .before .args .t2) (omega (arith, e, z))) ∙ mixed-parts fits (c .before .before .before .args .s) (c .before .before .before .args .t2)
 
-pub roles-fit-spec : {M : Type 1} → statement M
-roles-fit-spec =
+pub prerequisites-fit-spec : {M : Type 1} → statement M
+prerequisites-fit-spec =
     tie.close
     (tie.spec
     Inv-loop

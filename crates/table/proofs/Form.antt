@@ -65,10 +65,10 @@ behind-zeros s place a e h z =
     let j : a + i < 768 = omega (arith, length-drop a (take 768 (drop place s)), table-size s place e h) in
     subst⁻¹ (λ (n : ℕ). T (isZero n)) (behind s place a i j ∙ z (place + (a + i)) (omega arith) (omega arith)) tt)
 
--- past the state's end there is nothing
-past : (s : List ℕ) → length s ≡ stateSize → T (all isZero (drop (certificateCount s * 3) (take 768 (drop 834 s)))) → (k : ℕ) → certificateCount s * 3 + 834 ≤ k → (k < 1602) ⊎ (1602 ≤ k) → getD s k 0 ≡ 0
-past s e t k a (inl h) = zeros-behind s 834 (certificateCount s * 3) e (omega arith) t k a h
-past s e t k a (inr h) = List·getD-eq-default s 0 {n = k} (omega arith)
+-- past the certificates, the state's end too, there is nothing
+past-certificates : (s : List ℕ) → length s ≡ stateSize → T (all isZero (drop (certificateCount s * 3) (take 768 (drop 834 s)))) → (k : ℕ) → certificateCount s * 3 + 834 ≤ k → (k < 1602) ⊎ (1602 ≤ k) → getD s k 0 ≡ 0
+past-certificates s e t k a (inl h) = zeros-behind s 834 (certificateCount s * 3) e (omega arith) t k a h
+past-certificates s e t k a (inr h) = List·getD-eq-default s 0 {n = k} (omega arith)
 
 pub formed : (s : List ℕ) → wellFormed s ≡ true → Formed s
 unfolding formClauses
@@ -82,7 +82,7 @@ formed s w =
       rows = z .rows;
       certificates = z .certificates;
       rows-end = λ k a b. zeros-behind s 65 (rowCount s * 3) e (omega arith) (t .1 .1 .1 .1 .0) k a b;
-      certificates-end = λ k a. past s e (t .1 .1 .1 .1 .1 .0) k a (lt-or-ge k 1602);
+      certificates-end = λ k a. past-certificates s e (t .1 .1 .1 .1 .1 .0) k a (lt-or-ge k 1602);
     }
 
 pub of-formed : (s : List ℕ) → Formed s → T (wellFormed s)
