@@ -11,7 +11,7 @@ ghost use Rattle.model.specs.Sound.{sameCertificate};
 ghost use Rattle.model.specs.Calls.{fresh as freshCall, activate as activateCall, appoint as appointCall};
 ghost use Rattle.model.specs.Words.{Sound};
 ghost use Rattle.table.specs.Entries.{worldAt, withoutRights, Sized};
-ghost use Rattle.index.specs.Marked.{has, satisfiedBy};
+ghost use Rattle.index.specs.Marked.{ownMarks, has, satisfiedBy};
 ghost use Rattle.inner.specs.Promise.{lent, Answers};
 use model::ALREADY_ACTIVE;
 use model::Answer;
@@ -42,7 +42,7 @@ pub fn refused(code: u16) -> Answer
 // The lowest rule for the role whose conditions all hold by the marks, or the number of rules if there is none. Most rules are for
 // other roles, so a rule's target is asked before anything else is made ready.
 fn lowest_satisfied(rules: &[u16], kinds: &[u16], state: &[u16], own: &[bool], role: u16) -> usize
-    requires { ⌜ Sized (now state) × (length (now own) ≡ 384) ⌝ }
+    requires { ⌜ Sized (now state) × (length (now own) ≡ ownMarks) ⌝ }
     ensures { λ r. ⌜ r ≡ firstPlace (satisfiedBy (has (now (own .entry))) (worldAt (now (rules .entry)) (now (kinds .entry)) (now (state .entry))) role) (policyOf (withoutRights (now (rules .entry)) (now (kinds .entry))) .rules) ⌝ }
 {
     let n = rules.len() / RULE_WIDTH;
@@ -102,7 +102,7 @@ pub fn activate(
     if ROLES <= role {
         return refused(OUT_OF_RANGE);
     }
-    let mut own = [false; FIRST_FACT as usize];
+    let mut own = [false; index::OWN_MARKS];
     index::mark_roles(state, user, &mut own);
     if index::role_marked(&own, role) {
         return refused(ALREADY_ACTIVE);
