@@ -47,10 +47,10 @@ event-judged : (t : Tables) (s : List ℕ) (l : Line) → 3 ≤ l .word → l .w
 unfolding lineCall courseOf
 event-judged t s l h k = call-at (JudgedFirst t s) (eventCalls l) ((_, refl), ((_, refl), ((_, refl), ((_, refl), ((_, refl), ((_, refl), ((_, refl), ((_, refl), tt)))))))) fresh (l .word - 3) (omega arith)
 
-pub malformed-answers : (t : Tables) (s : List ℕ) (l : Line) → 3 ≤ l .word → l .word < 11 → soundPolicy t ≡ false → (r : Answer) → r .code ≡ 1 → r .second ≡ 0 → Answers t s (lineCall l) r s
-malformed-answers t s l h k e r a b =
+pub malformed-answers : (t : Tables) (s : List ℕ) (l : Line) → 3 ≤ l .word → l .word < 11 → soundPolicy t ≡ false → (r : Answer) → (r .code ≡ 1) × (r .second ≡ 0) → Answers t s (lineCall l) r s
+malformed-answers t s l h k e r z =
     let j : JudgedFirst t s (lineCall l) = event-judged t s l h k in
-    unsound t s [] (lineCall l) (j .0) (j .1) r b (λ z. omega arith) (a ∙ no-policy t s e)
+    unsound t s [] (lineCall l) (j .0) (j .1) r 1 z (λ z. omega arith) (no-policy t s e)
 
 -- ── soundness is kept ──
 

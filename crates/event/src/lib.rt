@@ -10,7 +10,15 @@ ghost use Rattle.program.specs.Program.{lineCall};
 ghost use Rattle.inner.specs.Promise.{lent, Answers};
 ghost use Rattle.event.specs.SoundIf.{SoundIf};
 use model::Answer;
+use model::MALFORMED_POLICY;
+use program::ACTIVATE_WORD;
+use program::APPOINT_WORD;
+use program::ENV_WORD;
+use program::INVOKE_WORD;
+use program::LOGOUT_WORD;
 use program::Line;
+use program::REVOKE_WORD;
+use program::WITHDRAW_WORD;
 
 // The call that the line makes, on sound tables.
 fn call(rules: &[u16], kinds: &[u16], rights: &[u16], state: &mut [u16], line: Line) -> Answer
@@ -20,13 +28,13 @@ fn call(rules: &[u16], kinds: &[u16], rights: &[u16], state: &mut [u16], line: L
     let word = line.word;
     let n = line.numbers;
     match word {
-        3 => inner::activate(rules, kinds, rights, state, n[0], n[1]),
-        4 => inner::appoint(rules, kinds, rights, state, n[0], n[1], n[2]),
-        5 => taking::revoke(rules, kinds, rights, state, n[0], n[1], n[2], n[3]),
-        6 => taking::withdraw(rules, kinds, rights, state, n[0], n[1], n[2]),
-        7 => taking::environment(rules, kinds, rights, state, n[0], n[1]),
-        8 => taking::logout(rules, kinds, rights, state, n[0]),
-        9 => query::invoke(rules, kinds, rights, state, n[0], n[1]),
+        ACTIVATE_WORD => inner::activate(rules, kinds, rights, state, n[0], n[1]),
+        APPOINT_WORD => inner::appoint(rules, kinds, rights, state, n[0], n[1], n[2]),
+        REVOKE_WORD => taking::revoke(rules, kinds, rights, state, n[0], n[1], n[2], n[3]),
+        WITHDRAW_WORD => taking::withdraw(rules, kinds, rights, state, n[0], n[1], n[2]),
+        ENV_WORD => taking::environment(rules, kinds, rights, state, n[0], n[1]),
+        LOGOUT_WORD => taking::logout(rules, kinds, rights, state, n[0]),
+        INVOKE_WORD => query::invoke(rules, kinds, rights, state, n[0], n[1]),
         _ => query::effective(rules, kinds, rights, state, n[0], n[1], n[2]),
     }
 }
@@ -45,7 +53,7 @@ pub fn answer_event(
     ensures kept { λ r. ⌜ T (sound (policyOf (lent (now (rules .entry)) (now (kinds .entry)) (now (rights .entry)))) (now (state .exit))) ⌝ }
 {
     if !sound_policy {
-        return Answer { code: 1, second: 0 };
+        return inner::refused(MALFORMED_POLICY);
     }
     call(rules, kinds, rights, state, line)
 }

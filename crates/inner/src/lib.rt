@@ -17,7 +17,6 @@ use model::ALREADY_ACTIVE;
 use model::Answer;
 use model::CERTIFICATE_COUNT_AT;
 use model::Certificate;
-use model::FIRST_FACT;
 use model::KIND_WIDTH;
 use model::MOST_CERTIFICATES;
 use model::MOST_ROWS;

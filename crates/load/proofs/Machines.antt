@@ -2,26 +2,26 @@
 -- event had come.
 use Prim.Native.Nat.{ℕ, suc, _+_, _*_, _/_, _≤_, _<_}
 use mathlib.Core.Path.{_≡_, refl, sym, ap, _∙_, subst⁻¹}
-use mathlib.Core.Bool.{Bool, true, false, _&&_, _||_, cond}
+use mathlib.Core.Bool.{Bool, true, false}
 use mathlib.Core.Logic.{_⊎_, inl, inr}
-use mathlib.Core.List.{List, [], _∷_, _++_, map}
+use mathlib.Core.List.{List, [], _∷_, map}
 use native.Mathlib.Omega.{arith}
 use native.Mathlib.Nat.{mul-div-cancel}
 use native.Mathlib.Numerals.{add-one}
-use lib.Dec.{eqb, ltb, leb}
+use lib.Dec.{leb}
 use lib.ListN.{length, take, replicate}
 use lib.Seq.{length-take-le}
-use borrow.Author.Tests.{lt-ltb, le-ltb, ne-eqb, ltb-false, lt-leb, le-leb}
-use Rattle.model.specs.Lists.{any}
+use borrow.Author.Tests.{ltb-false, lt-leb, le-leb}
+use Rattle.model.specs.Limits.{mostRules, ruleWidth, mostKinds, kindWidth, mostRights, rightWidth}
 use Rattle.model.specs.Values.{Tables}
 use Rattle.model.specs.Layout.{encode}
-use Rattle.model.specs.Calls.{answer}
-use Rattle.model.proofs.Tests.{or-later, lt-or-ge}
+use Rattle.model.proofs.Tests.{lt-or-ge}
 use Rattle.program.specs.Vocabulary.{numbered}
 use Rattle.program.specs.Lines.{lineOf}
-use Rattle.program.specs.Program.{Machine, isPolicy, isFull, badWays, isBad, afterBad, afterPolicy, afterEvent, step, steps, lineCall, withRow, badRecord, start}
+use Rattle.program.specs.Program.{Machine, isFull, afterPolicy, afterEvent, step, steps, withRow, start}
 use Rattle.program.specs.declared.Line.{Line}
 use Rattle.program.proofs.Counted.{counted}
+use Rattle.program.proofs.Steps.{badBy, bad-is, came-or-not, bad-written, event-taken, policy-taken}
 use Rattle.reader.specs.Reading.{recordAt, lineAt, nextAt}
 use Rattle.reader.proofs.Walking.{lines-from, none-from, next-behind, next-within}
 use Rattle.load.specs.Loading.{tablesOf, hasRoom, running, linesFrom, Loads}
@@ -40,61 +40,6 @@ module _ (most width : ℕ) (table : List ℕ) (n : ℕ) (wide : 0 < width) (siz
 
   full : most ≤ n → isFull most width (take (n * width) table) ≡ true
   full h = counted-rows ∙ le-leb most n h
-
--- ── a stopped machine stays ──
-
-still : (m : Machine) (l : Line) → m .stopped ≡ true → step m l ≡ m
-unfolding step
-still m l e = ap (λ (b : Bool). cond b m (cond (isBad m l) (afterBad m) (cond (isPolicy l) (afterPolicy m l) (afterEvent m (answer (m .tables) (m .state) [] (lineCall l)))))) e
-
-stopped-stays : (m : Machine) (ls : List Line) → m .stopped ≡ true → steps m ls ≡ m
-stopped-stays m [] e = refl
-stopped-stays m (l ∷ ls) e = ap (λ (x : Machine). steps x ls) (still m l e) ∙ stopped-stays m ls e
-
--- ── the ways to be bad, by the line's word ──
-
--- the ways for a word w: whether each table is full, and whether an event has come
-abbrev pub badBy : ℕ → Bool → Bool → Bool → Bool → Bool
-badBy w rules kinds rights came = any (λ (way : Bool). way) (eqb w 11 ∷ (eqb w 0 && rules) ∷ (eqb w 1 && kinds) ∷ (eqb w 2 && rights) ∷ (ltb w 3 && came) ∷ [])
-
-pub bad-is : (m : Machine) (l : Line) → isBad m l ≡ badBy (l .word) (isFull 512 11 (m .tables .rules)) (isFull 128 7 (m .tables .kinds)) (isFull 2048 2 (m .tables .rights)) (m .eventCame)
-unfolding badWays
-bad-is m l = refl
-
--- an event is not bad, whatever has come
-pub event-not-bad : (w : ℕ) (a b c came : Bool) → 3 ≤ w → w < 11 → badBy w a b c came ≡ false
-event-not-bad w a b c came h k =
-    λ i.
-    any (λ (way : Bool). way)
-    (ne-eqb w 11 (λ e. omega (arith, e)) i ∷ (ne-eqb w 0 (λ e. omega (arith, e)) i && a) ∷ (ne-eqb w 1 (λ e. omega (arith, e)) i && b) ∷ (ne-eqb w 2 (λ e. omega (arith, e)) i && c) ∷ (le-ltb w 3 h i && came) ∷ [])
-
--- a word past the policy's is as bad before the first event as after it
-came-or-not : (w : ℕ) (a b c : Bool) → 3 ≤ w → badBy w a b c false ≡ badBy w a b c true
-came-or-not w a b c h = (λ i. any (λ (way : Bool). way) (eqb w 11 ∷ (eqb w 0 && a) ∷ (eqb w 1 && b) ∷ (eqb w 2 && c) ∷ (le-ltb w 3 h i && false) ∷ [])) ∙ sym (λ i. any (λ (way : Bool). way) (eqb w 11 ∷ (eqb w 0 && a) ∷ (eqb w 1 && b) ∷ (eqb w 2 && c) ∷ (le-ltb w 3 h i && true) ∷ []))
-
--- a record of the policy after an event
-pub policy-after-event : (w : ℕ) (a b c : Bool) → w < 3 → badBy w a b c true ≡ true
-policy-after-event w a b c h =
-    or-later (eqb w 11) _ (or-later (eqb w 0 && a) _ (or-later (eqb w 1 && b) _ (or-later (eqb w 2 && c) _ (ap (λ (v : Bool). (v && true) || false) (lt-ltb w 3 h)))))
-
-pub unknown-bad : (w : ℕ) (a b c came : Bool) → w ≡ 11 → badBy w a b c came ≡ true
-unknown-bad w a b c came e = ap (λ (n : ℕ). badBy n a b c came) e
-
--- ── what a step comes to ──
-
-pub bad-written : (m : Machine) (l : Line) (ls : List Line) → m .stopped ≡ false → isBad m l ≡ true → steps m (l ∷ ls) .written ≡ m .written ++ badRecord (suc (m .taken))
-unfolding step afterBad
-bad-written m l ls s b =
-    ap (λ (x : Machine). steps x ls .written) ((λ i. cond (s i) m (cond (b i) (afterBad m) (cond (isPolicy l) (afterPolicy m l) (afterEvent m (answer (m .tables) (m .state) [] (lineCall l)))))))
-    ∙ ap (λ (x : Machine). x .written) (stopped-stays (afterBad m) ls refl)
-
-pub event-taken : (m : Machine) (l : Line) → m .stopped ≡ false → isBad m l ≡ false → 3 ≤ l .word → step m l ≡ afterEvent m (answer (m .tables) (m .state) [] (lineCall l))
-unfolding step
-event-taken m l s b h = λ i. cond (s i) m (cond (b i) (afterBad m) (cond (le-ltb (l .word) 3 h i) (afterPolicy m l) (afterEvent m (answer (m .tables) (m .state) [] (lineCall l)))))
-
-policy-taken : (m : Machine) (l : Line) → m .stopped ≡ false → isBad m l ≡ false → l .word < 3 → step m l ≡ afterPolicy m l
-unfolding step
-policy-taken m l s b h = λ i. cond (s i) m (cond (b i) (afterBad m) (cond (lt-ltb (l .word) 3 h i) (afterPolicy m l) (afterEvent m (answer (m .tables) (m .state) [] (lineCall l)))))
 
 -- ── loading ──
 
@@ -177,21 +122,21 @@ two-numbers c bytes h = go (lt-or-ge (lineOf bytes .word) 1) (lt-or-ge (lineOf b
 pub record Going (text rules kinds rights : List ℕ) (at taken : ℕ) (c : Counts) : Type 0 where
   pub in-text : at ≤ length text
   pub few : taken ≤ at
-  pub rules-size : length rules ≡ 5632
-  pub kinds-size : length kinds ≡ 896
-  pub rights-size : length rights ≡ 4096
+  pub rules-size : length rules ≡ mostRules * ruleWidth
+  pub kinds-size : length kinds ≡ mostKinds * kindWidth
+  pub rights-size : length rights ≡ mostRights * rightWidth
   pub rules-room : c .rules ≤ 512
   pub kinds-room : c .kinds ≤ 128
   pub rights-room : c .rights ≤ 2048
   pub so-far : steps start (linesFrom text 0) ≡ steps (loading (tablesOf rules kinds rights c) taken) (linesFrom text at)
 
-pub going-starts : (text rules kinds rights : List ℕ) → length rules ≡ 5632 → length kinds ≡ 896 → length rights ≡ 4096 → Going text rules kinds rights 0 0 (record { rules = 0; kinds = 0; rights = 0 })
+pub going-starts : (text rules kinds rights : List ℕ) → length rules ≡ mostRules * ruleWidth → length kinds ≡ mostKinds * kindWidth → length rights ≡ mostRights * rightWidth → Going text rules kinds rights 0 0 (record { rules = 0; kinds = 0; rights = 0 })
 unfolding encode
 going-starts text rules kinds rights a b c =
     record { in-text = omega arith; few = omega arith; rules-size = a; kinds-size = b; rights-size = c; rules-room = omega arith; kinds-room = omega arith; rights-room = omega arith; so-far = refl }
 
 module _ (text rules kinds rights : List ℕ) (at taken : ℕ) (c : Counts) (g : Going text rules kinds rights at taken c) where
-  going-on : (rules′ kinds′ rights′ : List ℕ) (c′ : Counts) → at < length text → hasRoom c (lineAt text at) ≡ true → length rules′ ≡ 5632 → length kinds′ ≡ 896 → length rights′ ≡ 4096
+  going-on : (rules′ kinds′ rights′ : List ℕ) (c′ : Counts) → at < length text → hasRoom c (lineAt text at) ≡ true → length rules′ ≡ mostRules * ruleWidth → length kinds′ ≡ mostKinds * kindWidth → length rights′ ≡ mostRights * rightWidth
       → tablesOf rules′ kinds′ rights′ c′ ≡ withRow (tablesOf rules kinds rights c) (lineAt text at) → (c′ .rules ≤ 512) × (c′ .kinds ≤ 128) × (c′ .rights ≤ 2048) → Going text rules′ kinds′ rights′ (nextAt text at) (taken + 1) c′
   going-on rules′ kinds′ rights′ c′ h room a b d e r =
       record {
@@ -211,17 +156,17 @@ module _ (text rules kinds rights : List ℕ) (at taken : ℕ) (c : Counts) (g :
       }
 
   -- what is loaded is what a machine that an event has reached goes on from
-  loaded : steps (loading (tablesOf rules kinds rights c) taken) (linesFrom text at) .written ≡ steps (running (tablesOf rules kinds rights c) (replicate 1602 0) taken []) (linesFrom text at) .written → Loads text rules kinds rights (record { at = at; taken = taken; rules = c .rules; kinds = c .kinds; rights = c .rights })
+  loaded : steps (loading (tablesOf rules kinds rights c) taken) (linesFrom text at) .written ≡ steps (running (tablesOf rules kinds rights c) (replicate 1602 0) taken []) (linesFrom text at) .written → Loads text rules kinds rights (record { at = at; taken = taken; counts = c })
   loaded e = record { in-text = g .in-text; few = g .few; rules-room = g .rules-room; kinds-room = g .kinds-room; rights-room = g .rights-room; goes-on = ap (λ (m : Machine). m .written) (g .so-far) ∙ e }
 
-  pub going-stops : at < length text → hasRoom c (lineAt text at) ≡ false → Loads text rules kinds rights (record { at = at; taken = taken; rules = c .rules; kinds = c .kinds; rights = c .rights })
+  pub going-stops : at < length text → hasRoom c (lineAt text at) ≡ false → Loads text rules kinds rights (record { at = at; taken = taken; counts = c })
   going-stops h room =
       loaded
       (ap (λ (ls : List Line). steps (loading (tablesOf rules kinds rights c) taken) ls .written) (lines-from text at h)
       ∙ events-begin rules kinds rights c (omega (arith, g .rules-room, g .rules-size)) (omega (arith, g .kinds-room, g .kinds-size)) (omega (arith, g .rights-room, g .rights-size)) (lineAt text at) taken (linesFrom text (nextAt text at)) room
       ∙ ap (λ (ls : List Line). steps (running (tablesOf rules kinds rights c) (replicate 1602 0) taken []) ls .written) (sym (lines-from text at h)))
 
-  pub going-ends : length text ≤ at → Loads text rules kinds rights (record { at = at; taken = taken; rules = c .rules; kinds = c .kinds; rights = c .rights })
+  pub going-ends : length text ≤ at → Loads text rules kinds rights (record { at = at; taken = taken; counts = c })
   going-ends h =
       loaded
       (ap (λ (rs : List (List ℕ)). steps (loading (tablesOf rules kinds rights c) taken) (map lineOf rs) .written) (none-from text at h)
@@ -229,7 +174,7 @@ module _ (text rules kinds rights : List ℕ) (at taken : ℕ) (c : Counts) (g :
 
 -- the same of the line and the place that code has read
 pub going-to : (text rules kinds rights : List ℕ) (at taken : ℕ) (c : Counts) → Going text rules kinds rights at taken c → (rules′ kinds′ rights′ : List ℕ) (c′ : Counts) (line : Line) (next : ℕ) → line ≡ lineAt text at → next ≡ nextAt text at
-    → at < length text → hasRoom c line ≡ true → length rules′ ≡ 5632 → length kinds′ ≡ 896 → length rights′ ≡ 4096
+    → at < length text → hasRoom c line ≡ true → length rules′ ≡ mostRules * ruleWidth → length kinds′ ≡ mostKinds * kindWidth → length rights′ ≡ mostRights * rightWidth
     → tablesOf rules′ kinds′ rights′ c′ ≡ withRow (tablesOf rules kinds rights c) line → (c′ .rules ≤ 512) × (c′ .kinds ≤ 128) × (c′ .rights ≤ 2048) → Going text rules′ kinds′ rights′ next (taken + 1) c′
 going-to text rules kinds rights at taken c g rules′ kinds′ rights′ c′ line next e f h room a b d w r =
     subst⁻¹ (λ (n : ℕ). Going text rules′ kinds′ rights′ n (taken + 1) c′) f

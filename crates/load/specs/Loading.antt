@@ -31,16 +31,12 @@ linesFrom text at = map lineOf (records (drop at text))
 abbrev pub running : Tables → List ℕ → ℕ → List ℕ → Machine
 running t s taken written = record { tables = t; state = s; eventCame = true; taken = taken; written = written; stopped = false }
 
--- the counts that were reached
-abbrev pub countsOf : Loaded → Counts
-countsOf r = record { rules = r .rules; kinds = r .kinds; rights = r .rights }
-
 -- what was loaded, and that the program goes on from there: the place is in the text, no more records were taken than bytes, no table
 -- has too many rows, and what is written is what a machine with these tables and a fresh state writes from the place on
 pub record Loads (text rules kinds rights : List ℕ) (r : Loaded) : Type 0 where
   pub in-text : r .at ≤ length text
   pub few : r .taken ≤ r .at
-  pub rules-room : r .rules ≤ mostRules
-  pub kinds-room : r .kinds ≤ mostKinds
-  pub rights-room : r .rights ≤ mostRights
-  pub goes-on : steps start (linesFrom text 0) .written ≡ steps (running (tablesOf rules kinds rights (countsOf r)) (replicate stateSize 0) (r .taken) []) (linesFrom text (r .at)) .written
+  pub rules-room : r .counts .rules ≤ mostRules
+  pub kinds-room : r .counts .kinds ≤ mostKinds
+  pub rights-room : r .counts .rights ≤ mostRights
+  pub goes-on : steps start (linesFrom text 0) .written ≡ steps (running (tablesOf rules kinds rights (r .counts)) (replicate stateSize 0) (r .taken) []) (linesFrom text (r .at)) .written

@@ -2,10 +2,10 @@
 // room.
 ghost use mathlib.Core.Path.{_≡_};
 ghost use mathlib.Core.List.{_++_};
-ghost use Prim.Native.Nat.{_+_, _≤_};
+ghost use Prim.Native.Nat.{_+_, _*_, _≤_};
 ghost use lib.ListN.{length, take};
 ghost use mathlib.Core.Bool.{true};
-ghost use Rattle.model.specs.Limits.{mostRules, mostKinds, mostRights};
+ghost use Rattle.model.specs.Limits.{mostRules, ruleWidth, mostKinds, kindWidth, mostRights, rightWidth};
 ghost use Rattle.program.specs.Program.{ruleRow, kindRow, rightRow, withRow};
 ghost use Rattle.load.specs.Loading.{tablesOf, hasRoom, Loads};
 use model::KIND_WIDTH;
@@ -14,13 +14,10 @@ use model::MOST_RIGHTS;
 use model::MOST_RULES;
 use model::RIGHT_WIDTH;
 use model::RULE_WIDTH;
+use program::KIND_WORD;
 use program::Line;
-
-const RULE: u16 = 0;
-
-const KIND: u16 = 1;
-
-const RIGHT: u16 = 2;
+use program::RIGHT_WORD;
+use program::RULE_WORD;
 
 // How many rows each table has so far.
 pub struct Counts {
@@ -30,7 +27,7 @@ pub struct Counts {
 }
 
 // The first `width` numbers of the row behind the first `at` of the table.
-fn append(table: &mut [u16], at: usize, row: [u16; 11], width: usize)
+fn append(table: &mut [u16], at: usize, row: [u16; RULE_WIDTH], width: usize)
     requires { ⌜ (at + width ≤ length (now table)) × (width ≤ 11) ⌝ }
     ensures { λ r. ⌜ take (at + width) (now (table .exit)) ≡ take at (now (table .entry)) ++ take width row ⌝ }
 {
@@ -46,13 +43,13 @@ fn has_room(counts: Counts, line: Line) -> bool
     ensures { λ r. ⌜ r ≡ hasRoom counts line ⌝ }
 {
     let word = line.word;
-    if word == RULE {
+    if word == RULE_WORD {
         return counts.rules < MOST_RULES;
     }
-    if word == KIND {
+    if word == KIND_WORD {
         return counts.kinds < MOST_KINDS;
     }
-    if word == RIGHT {
+    if word == RIGHT_WORD {
         return counts.rights < MOST_RIGHTS;
     }
     false
@@ -60,7 +57,7 @@ fn has_room(counts: Counts, line: Line) -> bool
 
 // The line as a row of its table, in the first numbers. The record has target and m, or appointer role and mode; n and s are how many
 // numbers follow these.
-fn rule_row(line: Line) -> [u16; 11]
+fn rule_row(line: Line) -> [u16; RULE_WIDTH]
     requires { ⌜ 2 ≤ line .count ⌝ }
     ensures { λ r. ⌜ take 11 r ≡ ruleRow line ⌝ }
 {
@@ -81,7 +78,7 @@ fn rule_row(line: Line) -> [u16; 11]
     ]
 }
 
-fn kind_row(line: Line) -> [u16; 11]
+fn kind_row(line: Line) -> [u16; RULE_WIDTH]
     requires { ⌜ 2 ≤ line .count ⌝ }
     ensures { λ r. ⌜ take 7 r ≡ kindRow line ⌝ }
 {
@@ -90,7 +87,7 @@ fn kind_row(line: Line) -> [u16; 11]
     [n[0], n[1], count, n[2], n[3], n[4], n[5], 0, 0, 0, 0]
 }
 
-fn right_row(line: Line) -> [u16; 11]
+fn right_row(line: Line) -> [u16; RULE_WIDTH]
     ensures { λ r. ⌜ take 2 r ≡ rightRow line ⌝ }
 {
     let n = line.numbers;
@@ -105,34 +102,39 @@ fn take_row(
     counts: Counts,
     line: Line,
 ) -> Counts
-    requires { ⌜ (length (now rules) ≡ 5632) × (length (now kinds) ≡ 896) × (length (now rights) ≡ 4096) × (hasRoom counts line ≡ true) × (2 ≤ line .count) × (counts .rules ≤ mostRules) × (counts .kinds ≤ mostKinds) × (counts .rights ≤ mostRights) ⌝ }
+    requires { ⌜ (length (now rules) ≡ mostRules * ruleWidth) × (length (now kinds) ≡ mostKinds * kindWidth) × (length (now rights) ≡ mostRights * rightWidth) × (hasRoom counts line ≡ true) × (2 ≤ line .count) × (counts .rules ≤ mostRules) × (counts .kinds ≤ mostKinds) × (counts .rights ≤ mostRights) ⌝ }
     ensures rows { λ r. ⌜ tablesOf (now (rules .exit)) (now (kinds .exit)) (now (rights .exit)) r ≡ withRow (tablesOf (now (rules .entry)) (now (kinds .entry)) (now (rights .entry)) counts) line ⌝ }
     ensures room { λ r. ⌜ (r .rules ≤ mostRules) × (r .kinds ≤ mostKinds) × (r .rights ≤ mostRights) ⌝ }
 {
-    let a = counts.rules;
-    let b = counts.kinds;
-    let c = counts.rights;
-    if line.word == RULE {
-        append(rules, a * RULE_WIDTH, rule_row(line), RULE_WIDTH);
+    let rule_count = counts.rules;
+    let kind_count = counts.kinds;
+    let right_count = counts.rights;
+    if line.word == RULE_WORD {
+        append(rules, rule_count * RULE_WIDTH, rule_row(line), RULE_WIDTH);
         return Counts {
-            rules: a + 1,
-            kinds: b,
-            rights: c,
+            rules: rule_count + 1,
+            kinds: kind_count,
+            rights: right_count,
         };
     }
-    if line.word == KIND {
-        append(kinds, b * KIND_WIDTH, kind_row(line), KIND_WIDTH);
+    if line.word == KIND_WORD {
+        append(kinds, kind_count * KIND_WIDTH, kind_row(line), KIND_WIDTH);
         return Counts {
-            rules: a,
-            kinds: b + 1,
-            rights: c,
+            rules: rule_count,
+            kinds: kind_count + 1,
+            rights: right_count,
         };
     }
-    append(rights, c * RIGHT_WIDTH, right_row(line), RIGHT_WIDTH);
+    append(
+        rights,
+        right_count * RIGHT_WIDTH,
+        right_row(line),
+        RIGHT_WIDTH,
+    );
     Counts {
-        rules: a,
-        kinds: b,
-        rights: c + 1,
+        rules: rule_count,
+        kinds: kind_count,
+        rights: right_count + 1,
     }
 }
 
@@ -140,14 +142,12 @@ fn take_row(
 pub struct Loaded {
     pub at: usize,
     pub taken: usize,
-    pub rules: usize,
-    pub kinds: usize,
-    pub rights: usize,
+    pub counts: Counts,
 }
 
 // Loads the records of the policy, up to the first that is none or has no room: what the program writes is what it writes from there on.
 pub fn load(text: &[u8], rules: &mut [u16], kinds: &mut [u16], rights: &mut [u16]) -> Loaded
-    requires { ⌜ (length (now rules) ≡ 5632) × (length (now kinds) ≡ 896) × (length (now rights) ≡ 4096) ⌝ }
+    requires { ⌜ (length (now rules) ≡ mostRules * ruleWidth) × (length (now kinds) ≡ mostKinds * kindWidth) × (length (now rights) ≡ mostRights * rightWidth) ⌝ }
     ensures { λ r. ⌜ Loads (now (text .entry)) (now (rules .exit)) (now (kinds .exit)) (now (rights .exit)) r ⌝ }
 {
     let mut at: usize = 0;
@@ -160,23 +160,11 @@ pub fn load(text: &[u8], rules: &mut [u16], kinds: &mut [u16], rights: &mut [u16
     while at < text.len() {
         let line = reader::line_from(text, at);
         if !has_room(counts, line) {
-            return Loaded {
-                at,
-                taken,
-                rules: counts.rules,
-                kinds: counts.kinds,
-                rights: counts.rights,
-            };
+            return Loaded { at, taken, counts };
         }
         counts = take_row(rules, kinds, rights, counts, line);
         taken += 1;
         at = reader::next_from(text, at);
     }
-    Loaded {
-        at,
-        taken,
-        rules: counts.rules,
-        kinds: counts.kinds,
-        rights: counts.rights,
-    }
+    Loaded { at, taken, counts }
 }

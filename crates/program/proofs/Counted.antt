@@ -1,11 +1,11 @@
--- A line that has a word has as many numbers as the word asks for.
+-- A line has one of the words, and as many numbers as the word asks for, or the number past the words.
 use Prim.Native.Nat.{ℕ, _<_, _≤_}
 use mathlib.Core.Path.{_≡_, refl}
 use mathlib.Core.Bool.{Bool, true, false, cond}
 use mathlib.Core.List.{List, [], _∷_, map}
 use native.Mathlib.Omega.{arith}
 use borrow.Author.Tests.{leb-true}
-use lib.Dec.{leb}
+use lib.Dec.{leb, ltb→lt}
 use lib.ListN.{length}
 use Rattle.model.specs.Lists.{every, filledTo}
 use Rattle.model.proofs.Tests.{is-true, of-true, each}
@@ -39,3 +39,16 @@ fields-counted (first ∷ arguments) h = from-counted (wordOf first) arguments h
 pub counted : (bytes : List ℕ) → lineOf bytes .word < words → (numbered (lineOf bytes .word) .least ≤ lineOf bytes .count) × (lineOf bytes .count ≤ numbered (lineOf bytes .word) .greatest)
 unfolding lineOf
 counted bytes = fields-counted (said bytes)
+
+fields-known : (fields : List (List ℕ)) → lineOfFields fields .word ≤ words
+unfolding lineFrom lineClauses
+fields-known [] = omega arith
+fields-known (first ∷ arguments) = go (every (lineClauses (wordOf first) arguments)) refl
+  where
+    go : (b : Bool) → every (lineClauses (wordOf first) arguments) ≡ b → cond b (record { word = wordOf first; count = length arguments; numbers = filledTo mostNumbers (map valueOf arguments) }) unknown .word ≤ words
+    go true e = let k : wordOf first < words = ltb→lt (wordOf first) words (each (lineClauses (wordOf first) arguments) (of-true (every (lineClauses (wordOf first) arguments)) e) .0) in omega (arith, k)
+    go false e = omega arith
+
+pub known : (bytes : List ℕ) → lineOf bytes .word ≤ words
+unfolding lineOf
+known bytes = fields-known (said bytes)

@@ -1,2 +1,4 @@
 pub mod Worked
 pub mod Counted
+pub mod Lengths
+pub mod Steps

@@ -1,51 +1,38 @@
 -- The events, one after the other: the invariant of the loop that answers them, and what it comes to.
 use Prim.Native.Nat.{ℕ, suc, _+_, _-_, _*_, _≤_, _<_, min}
 use mathlib.Core.Path.{_≡_, refl, sym, ap, _∙_, subst⁻¹}
-use mathlib.Core.Bool.{Bool, true, false, cond}
+use mathlib.Core.Bool.{Bool, true}
 use mathlib.Core.List.{List, [], _∷_, _++_, map}
 use native.Mathlib.Omega.{arith}
 use native.Mathlib.Numerals.{add-one}
-use lib.Dec.{T, ltb→lt}
+use lib.Dec.{T}
 use lib.ListN.{length, take, drop, length-take, length-drop}
-use Rattle.model.specs.Lists.{every, filledTo}
 use Rattle.model.specs.Values.{Tables}
 use Rattle.model.specs.Layout.{policyOf}
 use Rattle.model.specs.Sound.{soundPolicy, sound}
 use Rattle.model.specs.declared.Answer.{Answer}
-use Rattle.model.proofs.Tests.{of-true, each}
-use Rattle.program.specs.Text.{said, valueOf}
-use Rattle.program.specs.Vocabulary.{wordOf}
-use Rattle.program.specs.Lines.{lineClauses, lineFrom, lineOfFields, lineOf, unknown}
+use Rattle.program.specs.Lines.{lineOf}
 use Rattle.program.specs.Program.{Machine, answerRecord, badRecord, isFull, afterEvent, step, steps, lineCall}
 use Rattle.program.specs.declared.Line.{Line}
+use Rattle.program.proofs.Counted.{known}
+use Rattle.program.proofs.Lengths.{event-length}
+use Rattle.program.proofs.Steps.{badBy, bad-is, event-not-bad, policy-after-event, unknown-bad, bad-written, event-taken}
 use Rattle.text.specs.Places.{part, recordEnd}
 use Rattle.text.proofs.Ends.{record-within}
 use Rattle.reader.specs.Reading.{recordAt, lineAt, nextAt}
 use Rattle.reader.proofs.Walking.{lines-from, none-from, next-within}
 use Rattle.writer.specs.Writing.{Wrote}
 use Rattle.writer.proofs.Sizes.{answer-short, bad-short}
-use Rattle.writer.proofs.Records.{event-length}
 use Rattle.inner.specs.Promise.{Answers}
 use Rattle.load.specs.Loading.{running, linesFrom}
-use Rattle.load.proofs.Machines.{bad-is, event-not-bad, policy-after-event, unknown-bad, bad-written, event-taken, badBy}
 use Rattle.event.specs.SoundIf.{SoundIf}
 use Rattle.session.specs.Output.{Holds}
 
 -- ── lines ──
 
--- a line has one of the eleven words, or the number past them
-fields-known : (fields : List (List ℕ)) → lineOfFields fields .word ≤ 11
-unfolding lineFrom lineClauses
-fields-known [] = omega arith
-fields-known (first ∷ arguments) = go (every (lineClauses (wordOf first) arguments)) refl
-  where
-    go : (b : Bool) → every (lineClauses (wordOf first) arguments) ≡ b → cond b (record { word = wordOf first; count = length arguments; numbers = filledTo 10 (map valueOf arguments) }) unknown .word ≤ 11
-    go true e = let k : wordOf first < 11 = ltb→lt (wordOf first) 11 (each (lineClauses (wordOf first) arguments) (of-true (every (lineClauses (wordOf first) arguments)) e) .0) in omega (arith, k)
-    go false e = omega arith
-
 line-known : (text : List ℕ) (at : ℕ) → lineAt text at .word ≤ 11
-unfolding lineAt lineOf
-line-known text at = fields-known (said (recordAt text at))
+unfolding lineAt
+line-known text at = known (recordAt text at)
 
 -- behind an event's record the text is seven bytes further on
 event-behind : (text : List ℕ) (at : ℕ) → at < length text → 3 ≤ lineAt text at .word → lineAt text at .word < 11 → at + 7 ≤ nextAt text at

@@ -9,7 +9,7 @@ use borrow.Author.Tests.{lt-ltb, le-ltb}
 use Rattle.program.specs.Program.{badRecord, start, steps, program}
 use Rattle.writer.specs.Writing.{Wrote}
 use Rattle.writer.proofs.Sizes.{bad-short}
-use Rattle.load.specs.Loading.{tablesOf, running, linesFrom, countsOf, Loads}
+use Rattle.load.specs.Loading.{tablesOf, running, linesFrom, Loads}
 use Rattle.load.specs.declared.Loaded.{Loaded}
 use Rattle.session.specs.Output.{Holds}
 
@@ -23,7 +23,7 @@ module _ (text out : List ℕ) (w : ℕ) where
         front = o .front ∙ sym (ap (λ (b : Bool). cond b (badRecord 0) (steps start (linesFrom text 0) .written)) (lt-ltb 65536 (length text) h));
       }
 
-  pub loaded-and-run : (rules kinds rights : List ℕ) (r : Loaded) → length text ≤ 65536 → Loads text rules kinds rights r → Holds out w (steps (running (tablesOf rules kinds rights (countsOf r)) (replicate 1602 0) (r .taken) []) (linesFrom text (r .at)) .written) → Holds out w (program text)
+  pub loaded-and-run : (rules kinds rights : List ℕ) (r : Loaded) → length text ≤ 65536 → Loads text rules kinds rights r → Holds out w (steps (running (tablesOf rules kinds rights (r .counts)) (replicate 1602 0) (r .taken) []) (linesFrom text (r .at)) .written) → Holds out w (program text)
   unfolding program
   loaded-and-run rules kinds rights r h l o =
       record {

@@ -16,11 +16,11 @@ use model::MOST_RULES;
 use model::RIGHT_WIDTH;
 use model::RULE_WIDTH;
 use model::STATE_SIZE;
+use program::POLICY_WORDS;
 use program::WORDS;
 
-const POLICY_WORDS: u16 = 3;
-
-const MOST_BYTES: usize = 65536;
+// "at most 65,536 bytes".
+pub const MOST_BYTES: usize = 65536;
 
 // Answers the events from a place on, until the text ends or a record is bad. The policy is complete when the first event comes, so it
 // is judged here, once; and a record of the policy is bad from now on.
@@ -70,14 +70,14 @@ pub fn session(text: &[u8], out: &mut [u8]) -> usize
     let mut kinds = [0u16; MOST_KINDS * KIND_WIDTH];
     let mut rights = [0u16; MOST_RIGHTS * RIGHT_WIDTH];
     let loaded = load::load(text, &mut rules, &mut kinds, &mut rights);
-    let a = loaded.rules * RULE_WIDTH;
-    let b = loaded.kinds * KIND_WIDTH;
-    let c = loaded.rights * RIGHT_WIDTH;
+    let rules_end = loaded.counts.rules * RULE_WIDTH;
+    let kinds_end = loaded.counts.kinds * KIND_WIDTH;
+    let rights_end = loaded.counts.rights * RIGHT_WIDTH;
     let mut state = [0u16; STATE_SIZE];
     run(
-        &rules[..a],
-        &kinds[..b],
-        &rights[..c],
+        &rules[..rules_end],
+        &kinds[..kinds_end],
+        &rights[..rights_end],
         text,
         loaded.at,
         loaded.taken,

@@ -8,7 +8,19 @@ ghost use Rattle.program.specs.Text.{isDigit, unquoted};
 ghost use Rattle.program.specs.Vocabulary.{words, same, wordOf, numbered};
 ghost use Rattle.program.specs.Lines.{unknown as unknownLine, lineFrom, lineOf};
 ghost use Rattle.text.specs.Places.{part, Within, atCrlf, recordEnd, fieldEnd, saidBehind, numberOf, writtenBehind};
+use program::ACTIVATE_WORD;
+use program::APPOINT_WORD;
+use program::DIGIT_ZERO;
+use program::ENV_WORD;
+use program::INVOKE_WORD;
+use program::KIND_WORD;
+use program::LOGOUT_WORD;
 use program::Line;
+use program::MOST_NUMBERS;
+use program::REVOKE_WORD;
+use program::RIGHT_WORD;
+use program::RULE_WORD;
+use program::WITHDRAW_WORD;
 use program::WORDS;
 
 const COMMA: u8 = 44;
@@ -19,14 +31,10 @@ const CR: u8 = 13;
 
 const LF: u8 = 10;
 
-const DIGIT_ZERO: u8 = 48;
-
 // The least and the greatest number of fields behind each word.
-const LEAST: [u16; 11] = [2, 2, 2, 2, 3, 4, 3, 2, 1, 2, 3];
+const LEAST: [u16; WORDS as usize] = [2, 2, 2, 2, 3, 4, 3, 2, 1, 2, 3];
 
-const GREATEST: [u16; 11] = [10, 6, 2, 2, 3, 4, 3, 2, 1, 2, 3];
-
-const MOST_NUMBERS: u16 = 10;
+const GREATEST: [u16; WORDS as usize] = [10, 6, 2, 2, 3, 4, 3, 2, 1, 2, 3];
 
 // The number of a field, or that it is none.
 pub enum Number {
@@ -164,16 +172,16 @@ fn says_word(field: &[u8], word: u16) -> bool
     ensures { λ r. ⌜ r ≡ same (now (field .entry)) (numbered word .letters) ⌝ }
 {
     match word {
-        0 => says(field, b"rule"),
-        1 => says(field, b"kind"),
-        2 => says(field, b"right"),
-        3 => says(field, b"activate"),
-        4 => says(field, b"appoint"),
-        5 => says(field, b"revoke"),
-        6 => says(field, b"withdraw"),
-        7 => says(field, b"env"),
-        8 => says(field, b"logout"),
-        9 => says(field, b"invoke"),
+        RULE_WORD => says(field, b"rule"),
+        KIND_WORD => says(field, b"kind"),
+        RIGHT_WORD => says(field, b"right"),
+        ACTIVATE_WORD => says(field, b"activate"),
+        APPOINT_WORD => says(field, b"appoint"),
+        REVOKE_WORD => says(field, b"revoke"),
+        WITHDRAW_WORD => says(field, b"withdraw"),
+        ENV_WORD => says(field, b"env"),
+        LOGOUT_WORD => says(field, b"logout"),
+        INVOKE_WORD => says(field, b"invoke"),
         _ => says(field, b"effective"),
     }
 }
@@ -210,7 +218,7 @@ fn unknown() -> Line
     Line {
         word: WORDS,
         count: 0,
-        numbers: [0, 0, 0, 0, 0, 0, 0, 0, 0, 0],
+        numbers: [0; MOST_NUMBERS as usize],
     }
 }
 
@@ -219,7 +227,7 @@ fn line_behind(bytes: &[u8], word: u16, from: usize) -> Line
     requires { ⌜ (word < words) × (from ≤ length (now bytes)) ⌝ }
     ensures { λ r. ⌜ r ≡ lineFrom word (saidBehind (now (bytes .entry)) from) ⌝ }
 {
-    let mut numbers: [u16; 10] = [0, 0, 0, 0, 0, 0, 0, 0, 0, 0];
+    let mut numbers = [0u16; MOST_NUMBERS as usize];
     let mut count: u16 = 0;
     let mut at = from;
     while at < bytes.len() {

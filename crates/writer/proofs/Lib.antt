@@ -1,4 +1,3 @@
 pub mod Decimals
 pub mod Sizes
 pub mod Joined
-pub mod Records

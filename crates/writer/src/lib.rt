@@ -6,8 +6,7 @@ ghost use Rattle.program.specs.Text.{cr, lf, decimal};
 ghost use Rattle.program.specs.Program.{answerRecord, badRecord};
 ghost use Rattle.writer.specs.Writing.{Wrote};
 use model::Answer;
-
-const DIGIT_ZERO: u8 = 48;
+use program::DIGIT_ZERO;
 
 fn write_byte(out: &mut [u8], at: usize, byte: u8) -> usize
     requires { ⌜ at < length (now out) ⌝ }

@@ -29,14 +29,14 @@ slice-aggregate-load-3 c = search needs
 load-requires : tie.Need-load-requires
 load-requires c κs = search needs
 
-mul-a : tie.Need-mul-a
-mul-a c = omega (arith, c .before .before .before .before .load .ensures .rules-room)
+mul-rules-end : tie.Need-mul-rules-end
+mul-rules-end c = omega (arith, c .before .before .before .before .load .ensures .rules-room)
 
-mul-b : tie.Need-mul-b
-mul-b c = omega (arith, c .before .before .before .before .before .load .ensures .kinds-room)
+mul-kinds-end : tie.Need-mul-kinds-end
+mul-kinds-end c = omega (arith, c .before .before .before .before .before .load .ensures .kinds-room)
 
-mul-c : tie.Need-mul-c
-mul-c c = omega (arith, c .before .before .before .before .before .before .load .ensures .rights-room)
+mul-rights-end : tie.Need-mul-rights-end
+mul-rights-end c = omega (arith, c .before .before .before .before .before .before .load .ensures .rights-room)
 
 array-share-prefix-rules : tie.Need-array-share-prefix-rules
 array-share-prefix-rules c = search needs
@@ -51,19 +51,19 @@ returns-2 : tie.Need-returns-2
 returns-2 c = loaded-and-run (c .before .before .before .before .before .before .before .before .before .before .before .before .before .before .before .before .before .before .before .before .before .before .args .text .now) _ (c .before .before .before .run .result) _ _ _ (c .before .before .before .before .before .before .before .before .before .before .before .before .before .before .before .load .result) (omega arith) (c .before .before .before .before .before .before .before .before .before .before .before .before .before .before .before .load .ensures) (c .before .before .before .run .ensures)
 
 slice-aggregate-run : tie.Need-slice-aggregate-run
-slice-aggregate-run c = sym (length-take-le (c .before .before .before .before .before .before .before .load .result .rules * 11) (c .before .before .before .before .before .before .before .load .last .1 .0) (omega (arith, c .before .before .before .before .before .before .before .load .ensures .rules-room, c .before .before .before .before .before .before .before .load .kept .1 .0)))
+slice-aggregate-run c = sym (length-take-le (c .before .before .before .before .before .before .before .load .result .counts .rules * 11) (c .before .before .before .before .before .before .before .load .last .1 .0) (omega (arith, c .before .before .before .before .before .before .before .load .ensures .rules-room, c .before .before .before .before .before .before .before .load .kept .1 .0)))
 
 array-share-prefix-kinds : tie.Need-array-share-prefix-kinds
 array-share-prefix-kinds c = search needs
 
 slice-aggregate-run-2 : tie.Need-slice-aggregate-run-2
-slice-aggregate-run-2 c = sym (length-take-le (c .before .before .before .before .before .before .before .before .load .result .kinds * 7) (c .before .before .before .before .before .before .before .before .load .last .1 .1 .0) (omega (arith, c .before .before .before .before .before .before .before .before .load .ensures .kinds-room, c .before .before .before .before .before .before .before .before .load .kept .1 .1 .0)))
+slice-aggregate-run-2 c = sym (length-take-le (c .before .before .before .before .before .before .before .before .load .result .counts .kinds * 7) (c .before .before .before .before .before .before .before .before .load .last .1 .1 .0) (omega (arith, c .before .before .before .before .before .before .before .before .load .ensures .kinds-room, c .before .before .before .before .before .before .before .before .load .kept .1 .1 .0)))
 
 array-share-prefix-rights : tie.Need-array-share-prefix-rights
 array-share-prefix-rights c = search needs
 
 slice-aggregate-run-3 : tie.Need-slice-aggregate-run-3
-slice-aggregate-run-3 c = sym (length-take-le (c .before .before .before .before .before .before .before .before .before .load .result .rights * 2) (c .before .before .before .before .before .before .before .before .before .load .last .1 .1 .1 .0) (omega (arith, c .before .before .before .before .before .before .before .before .before .load .ensures .rights-room, c .before .before .before .before .before .before .before .before .before .load .kept .1 .1 .1 .0)))
+slice-aggregate-run-3 c = sym (length-take-le (c .before .before .before .before .before .before .before .before .before .load .result .counts .rights * 2) (c .before .before .before .before .before .before .before .before .before .load .last .1 .1 .1 .0) (omega (arith, c .before .before .before .before .before .before .before .before .before .load .ensures .rights-room, c .before .before .before .before .before .before .before .before .before .load .kept .1 .1 .1 .0)))
 
 slice-aggregate-run-4 : tie.Need-slice-aggregate-run-4
 slice-aggregate-run-4 c = search needs
@@ -79,9 +79,9 @@ session-spec =
     slice-aggregate-load-2
     slice-aggregate-load-3
     load-requires
-    mul-a
-    mul-b
-    mul-c
+    mul-rules-end
+    mul-kinds-end
+    mul-rights-end
     array-share-prefix-rules
     slice-aggregate-run
     array-share-prefix-kinds
