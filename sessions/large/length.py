@@ -42,7 +42,7 @@ def limit_bytes():
 
 
 def limit_record():
-    # No record that is not bad is shorter than `env,0,0`, 9 bytes with its CRLF.
+    # The shortest record that is not bad is `env,0,0`, 9 bytes with its CRLF.
     # 7,281 * 9 = 65,529, so 7 bytes are left for one more: no record has a
     # higher number. The fact is false from the start, so nothing is lost.
     good = 7281
