@@ -131,6 +131,20 @@ pub fn unjudged() -> Result<Vec<Case>, String> {
 #[cfg(test)]
 mod tests {
     use super::*;
+    use crate::case::Measured;
+
+    #[test]
+    fn every_case_is_answered_alike() {
+        judged().unwrap().into_iter().for_each(|case| drop(Measured::judged(case).unwrap()));
+        unjudged().unwrap().into_iter().for_each(|case| drop(Measured::unjudged(case).unwrap()));
+    }
+
+    #[test]
+    fn unsound_tables_are_not_for_calls_that_do_not_judge() {
+        let refused = judged().unwrap().into_iter().filter(|case| !case.is_on_sound_tables());
+        let errors: Vec<_> = refused.map(|case| Measured::unjudged(case).err()).collect();
+        assert!(errors.len() == 4 && errors.iter().all(Option::is_some), "{errors:?}");
+    }
 
     #[test]
     fn certificates_meet() {
