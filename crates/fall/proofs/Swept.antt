@@ -3,7 +3,7 @@ use Prim.Native.Nat.{ℕ, zero, suc, _+_, _*_, _-_, _≤_, _<_}
 use mathlib.Core.Path.{_≡_, refl, sym, ap, _∙_, subst⁻¹}
 use mathlib.Core.Bool.{Bool, true, false, not, cond}
 use mathlib.Core.Logic.{_≢_, _⊎_, inl, inr}
-use mathlib.Core.List.{List, [], _∷_, _++_}
+use mathlib.Core.List.{List, [], _∷_, _++_, append-nil}
 use native.Mathlib.Omega.{arith}
 use native.Mathlib.Numerals.{add-one}
 use lib.Dec.{eqb}
@@ -15,6 +15,7 @@ use Rattle.model.specs.Layout.{decode, factNumbers, rowCount, rowFrom, rowNumbe
 use Rattle.model.specs.Conditions.{active, supported}
 use Rattle.model.specs.Left.{left}
 use Rattle.model.specs.declared.Row.{Row}
+use Rattle.model.proofs.Parts.{without-append}
 use Rattle.model.proofs.Sweep.{left-last}
 use Rattle.model.proofs.Tests.{lt-or-ge}
 use Rattle.table.specs.Entries.{rowAt, firstRows, Sized}
@@ -38,7 +39,7 @@ swept-sized stays s₀ s i w z h p =
     }
 
 -- a row moved behind the rows kept
-pub kept-rows : (s s′ : List ℕ) (w i : ℕ) → w ≤ i → i < 256 → Moved s s′ (rowPlace i) (rowPlace w) 3 → firstRows s′ (w + 1) ≡ firstRows s w ++ (rowAt s i ∷ [])
+kept-rows : (s s′ : List ℕ) (w i : ℕ) → w ≤ i → i < 256 → Moved s s′ (rowPlace i) (rowPlace w) 3 → firstRows s′ (w + 1) ≡ firstRows s w ++ (rowAt s i ∷ [])
 kept-rows s s′ w i h l m = ap (firstRows s′) (add-one w) ∙ rows-more s′ w ∙ (λ k. rows-first-same s s′ w (omega arith) (λ j a b. m .below j b) k ++ (row-same s s′ i w l (omega arith) (λ j b. m .inside j b) k ∷ []))
 
 -- what the pass has not reached stands as it stood
@@ -175,18 +176,11 @@ staying-left w s verdicts j (suc n) h = step (staying-left w s verdicts j n (ome
     step e = (λ k. cond (said k) (e k ++ (rowAt s n ∷ [])) (e k)) ∙ sym (ap (left (supported w)) (rows-more s n) ∙ left-last (supported w) (firstRows s n) (rowAt s n))
 
 without-last : (gone : Row → Bool) (rows : List Row) (r : Row) → without gone (rows ++ (r ∷ [])) ≡ cond (not (gone r)) (without gone rows ++ (r ∷ [])) (without gone rows)
-without-last gone [] r = one (gone r)
+without-last gone rows r = without-append gone rows (r ∷ []) ∙ go (gone r)
   where
-    one : (b : Bool) → cond b [] (r ∷ []) ≡ cond (not b) (r ∷ []) []
-    one true = refl
-    one false = refl
-without-last gone (x ∷ rows) r = go (gone x) (gone r) (without-last gone rows r)
-  where
-    go : (a b : Bool) → without gone (rows ++ (r ∷ [])) ≡ cond (not b) (without gone rows ++ (r ∷ [])) (without gone rows)
-        → cond a (without gone (rows ++ (r ∷ []))) (x ∷ without gone (rows ++ (r ∷ []))) ≡ cond (not b) (cond a (without gone rows) (x ∷ without gone rows) ++ (r ∷ [])) (cond a (without gone rows) (x ∷ without gone rows))
-    go true b e = e
-    go false true e = ap (λ (l : List Row). x ∷ l) e
-    go false false e = ap (λ (l : List Row). x ∷ l) e
+    go : (b : Bool) → (without gone rows ++ cond b [] (r ∷ [])) ≡ cond (not b) (without gone rows ++ (r ∷ [])) (without gone rows)
+    go true = append-nil (without gone rows)
+    go false = refl
 
 -- those that a test does not take are those without the ones that it takes
 pub staying-without : (gone : Row → Bool) (s : List ℕ) (n : ℕ) → staying (λ (i : ℕ). not (gone (rowAt s i))) s n ≡ without gone (firstRows s n)

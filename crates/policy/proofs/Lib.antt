@@ -1,5 +1,5 @@
 pub mod Clauses
-pub mod Mixed
-pub mod Unread
 pub mod Places
+pub mod Conditions
 pub mod Rights
+pub mod Unread

@@ -9,17 +9,33 @@ use native.Mathlib.Nat.{div-eq-of-lt, le-div-iff-mul-le}
 use native.Mathlib.Numerals.{add-one}
 use lib.Bits.{bitOr}
 use lib.Dec.{eqb, ltb}
-use borrow.Author.Tests.{eq-eqb, ne-eqb, lt-ltb, le-ltb}
+use borrow.Author.Tests.{eq-eqb, ne-eqb, eqb-true, lt-ltb, le-ltb}
 use lib.ListN.{getD}
 use Rattle.model.specs.Lists.{all}
 use Rattle.model.specs.Layout.{rightFrom}
 use Rattle.model.specs.Sound.{rightClauses, rightFits}
 use Rattle.model.specs.declared.Right.{Right}
-use Rattle.model.proofs.Tests.{all-append, lt-or-ge}
+use Rattle.model.proofs.Tests.{all-append, lt-or-ge, below-at}
 use Rattle.table.specs.Entries.{entries, entry, rightAt}
 use Rattle.table.proofs.Entries.{entries-more, right-places}
 use Rattle.table.proofs.Zeros.{join-zero}
 use Rattle.policy.specs.Counting.{RightLimits, keeps}
+
+-- ── the table of limits ──
+
+abbrev pairs : List ℕ
+pairs =
+    256 ∷ 1024 ∷ 256 ∷ 1024 ∷ 256 ∷ 1024 ∷ 256 ∷ 1024 ∷ 256 ∷ 1024 ∷ 256 ∷ 1024 ∷ 256 ∷ 1024 ∷ 256 ∷ 1024 ∷ 256 ∷ 1024 ∷ 256 ∷ 1024 ∷ 256 ∷ 1024 ∷ 256 ∷ 1024 ∷ 256 ∷ 1024 ∷ 256 ∷ 1024 ∷ 256 ∷ 1024 ∷ 256 ∷ 1024 ∷ []
+
+pub limits-are : RightLimits pairs
+limits-are =
+    record {
+      size = refl;
+      role = λ m h. eqb-true (getD pairs (m * 2) 0) 256 (below-at (λ (k : ℕ). eqb (getD pairs (k * 2) 0) 256) 16 tt m h);
+      privilege = λ m h. eqb-true (getD pairs (m * 2 + 1) 0) 1024 (below-at (λ (k : ℕ). eqb (getD pairs (k * 2 + 1) 0) 1024) 16 tt m h);
+    }
+
+-- ── sixteen rights ──
 
 module _ (rights : List ℕ) where
   -- the first i rights fit

@@ -15,7 +15,7 @@ use Rattle.model.specs.Layout.{decode, encode, rowCount, certificateCount, fact
 use Rattle.model.specs.Sound.{formClauses, wellFormed}
 use Rattle.model.specs.declared.Row.{Row}
 use Rattle.model.specs.declared.Certificate.{Certificate}
-use Rattle.model.proofs.Tests.{lt-or-ge, of-true, and-left, and-right, and-both, each, of-each}
+use Rattle.model.proofs.Tests.{lt-or-ge, of-true, and-both, each, of-each, all-of, at-place}
 use Rattle.model.proofs.Numbers.{encode-decode}
 use Rattle.table.specs.Entries.{entry, entries, rowAt, firstRows, certificateAt, firstCertificates}
 use Rattle.table.proofs.Entries.{entries-next, row-places, certificate-places, sized}
@@ -23,9 +23,7 @@ use Rattle.table.proofs.Entries.{entries-next, row-places, certificate-
 -- ── tests of all, by places ──
 
 all-place : (test : ℕ → Bool) (l : List ℕ) (i : ℕ) → T (all test l) → i < length l → T (test (getD l i 0))
-all-place test [] i t h = absurd (omega arith)
-all-place test (x ∷ l) zero t h = and-left (test x) (all test l) t
-all-place test (x ∷ l) (suc i) t h = all-place test l i (and-right (test x) (all test l) t) (omega arith)
+all-place test l i t h = all-of test l t (getD l i 0) (at-place l i 0 h)
 
 place-all : (test : ℕ → Bool) (l : List ℕ) → ((i : ℕ) → i < length l → T (test (getD l i 0))) → T (all test l)
 place-all test [] h = tt
@@ -85,7 +83,7 @@ formed s w =
       certificates-end = λ k a. past-certificates s e (t .1 .1 .1 .1 .1 .0) k a (lt-or-ge k 1602);
     }
 
-pub of-formed : (s : List ℕ) → Formed s → T (wellFormed s)
+of-formed : (s : List ℕ) → Formed s → T (wellFormed s)
 unfolding formClauses
 of-formed s f =
     of-each (formClauses s) (
@@ -159,7 +157,7 @@ pub certificate-same : (s s′ : List ℕ) (i j : ℕ) → i < 256 → j < 256 �
 certificate-same s s′ i j a b h = certificate-places s′ j b ∙ three-same makeCertificate 834 s s′ i j h ∙ sym (certificate-places s i a)
 
 -- tables that agree in their first entries
-pub entries-same : {A : Type 0} (from : List ℕ → A) (width : ℕ) (t t′ : List ℕ) (k : ℕ) → ((i : ℕ) → i < k → entry from width t′ i ≡ entry from width t i) → entries from width t′ k ≡ entries from width t k
+entries-same : {A : Type 0} (from : List ℕ → A) (width : ℕ) (t t′ : List ℕ) (k : ℕ) → ((i : ℕ) → i < k → entry from width t′ i ≡ entry from width t i) → entries from width t′ k ≡ entries from width t k
 entries-same from width t t′ zero h = refl
 entries-same from width t t′ (suc k) h = entries-next from width t′ k ∙ (λ i. entries-same from width t t′ k (λ j l. h j (omega arith)) i ++ (h k (omega arith) i ∷ [])) ∙ sym (entries-next from width t k)
 

@@ -1,5 +1,5 @@
 use native.Mathlib.Omega.{arith}
-use Rattle.policy.proofs.Places.{fits-low, fits-high}
+use Rattle.policy.proofs.Conditions.{fits-low, fits-high}
 use borrow.Author.Needs.{needs}
 use Rattle.policy.proofs.condition_fits.Statement.{statement}
 use Rattle.policy.proofs.condition_fits.Tie as tie

@@ -11,8 +11,8 @@ use Rattle.model.specs.Lists.{isZero}
 use Rattle.model.specs.Conditions.{meant}
 use Rattle.model.specs.Sound.{conditionFits}
 use Rattle.policy.specs.Lent.{kindsOnly}
-use Rattle.policy.proofs.Places.{unfit-not-zero}
-use Rattle.policy.proofs.Mixed.{mixed, mixed-parts, mixed-more}
+use Rattle.policy.proofs.Conditions.{unfit-not-zero}
+use Rattle.policy.proofs.Places.{mixed, mixed-parts, mixed-more}
 use borrow.Author.Needs.{needs}
 use Rattle.policy.proofs.conditions_fit.Statement.{statement}
 use Rattle.policy.proofs.conditions_fit.Tie as tie

@@ -1,4 +1,4 @@
-use Rattle.policy.proofs.Places.{limits-are}
+use Rattle.policy.proofs.Rights.{limits-are}
 use Rattle.policy.proofs.limits.Statement.{statement}
 use Rattle.policy.proofs.limits.Tie as tie
 

@@ -1,20 +1,25 @@
 -- The invariant: what is wrong with the prerequisites passed is joined, and it is zero exactly if nothing is.
 use Prim.Native.Nat.{ℕ, _≤_, _-_}
-use mathlib.Core.Path.{_≡_, refl, ap, _∙_}
-use mathlib.Core.Bool.{Bool, cond}
+use mathlib.Core.Path.{_≡_, refl, sym, ap, _∙_}
+use mathlib.Core.Bool.{Bool, false, true≢false, cond}
+use mathlib.Core.Logic.{_≢_}
 use native.Mathlib.Omega.{arith}
 use lib.Dec.{eqb, ltb}
+use borrow.Author.Tests.{lt-ltb}
 use lib.ListN.{length, take, getD}
 use lib.Seq.{take-all}
 use Rattle.model.specs.Lists.{isZero}
-use Rattle.policy.proofs.Mixed.{mixed, mixed-parts, mixed-more}
-use Rattle.policy.proofs.Places.{beyond-not-zero}
+use Rattle.policy.proofs.Places.{mixed, mixed-parts, mixed-more}
 use borrow.Author.Needs.{needs}
 use Rattle.policy.proofs.prerequisites_fit.Statement.{statement}
 use Rattle.policy.proofs.prerequisites_fit.Tie as tie
 
 abbrev fits : ℕ → Bool
 fits q = ltb q 256
+
+-- a number that is no role is not 0
+pub beyond-not-zero : (q : ℕ) → ltb q 256 ≡ false → q ≢ 0
+beyond-not-zero q e z = true≢false (sym (lt-ltb q 256 (omega (arith, z))) ∙ e)
 
 abbrev Inv-loop : tie.InvT-loop
 Inv-loop counting s prerequisites joined₀ j₀ joined j = (j ≤ 4) × (eqb joined 0 ≡ mixed fits s (take j prerequisites))
