@@ -18,9 +18,8 @@ use Rattle.model.specs.Words.{Sound}
 use Rattle.model.specs.declared.Right.{Right}
 use Rattle.model.specs.declared.Row.{Row}
 use Rattle.model.proofs.Tests.{lt-or-ge, each, all-of, any-append, repeated}
-use Rattle.table.specs.Entries.{entry, entries, rightAt}
+use Rattle.table.specs.Entries.{entry, entries, rightAt, lent}
 use Rattle.table.proofs.Entries.{entries-more, entry-member, right-places}
-use Rattle.policy.specs.Lent.{lent}
 use Rattle.direct.specs.Having.{RightsFit, met, Said, hasRight, Having}
 
 module _ (rights : List ℕ) (x : ℕ) where

@@ -10,8 +10,7 @@ use Rattle.model.specs.Limits.{roles}
 use Rattle.model.specs.Layout.{policyOf, rightFrom}
 use Rattle.model.specs.Sound.{rightFits}
 use Rattle.model.specs.Effective.{isRight, direct}
-use Rattle.table.specs.Entries.{entries}
-use Rattle.policy.specs.Lent.{lent}
+use Rattle.table.specs.Entries.{entries, lent}
 
 -- each right names a role and a privilege that there are
 abbrev pub RightsFit : List ℕ → Type 0

@@ -44,9 +44,13 @@ certificateAt s i = entry certificateFrom certificateWidth (certificateNumbers s
 unfoldable pub firstCertificates : List ℕ → ℕ → List Certificate
 firstCertificates s k = entries certificateFrom certificateWidth (certificateNumbers s) k
 
--- the rules and kinds as they are lent, without rights: whoever judges conditions reads none
+-- the tables as a caller lends them
+abbrev pub lent : List ℕ → List ℕ → List ℕ → Tables
+lent rules kinds rights = record { rules = rules; kinds = kinds; rights = rights }
+
+-- the same without rights: whoever judges conditions reads none
 abbrev pub withoutRights : List ℕ → List ℕ → Tables
-withoutRights rules kinds = record { rules = rules; kinds = kinds; rights = [] }
+withoutRights rules kinds = lent rules kinds []
 
 -- what conditions are judged against
 abbrev pub worldAt : List ℕ → List ℕ → List ℕ → World

@@ -10,9 +10,8 @@ use Rattle.model.specs.Layout.{policyOf, decode, rowCount, rowFrom, rowNumbers}
 use Rattle.model.specs.Effective.{direct}
 use Rattle.model.specs.Calls.{allowed}
 use Rattle.model.specs.declared.Row.{Row}
-use Rattle.table.specs.Entries.{entries, rowAt}
+use Rattle.table.specs.Entries.{entries, rowAt, lent}
 use Rattle.table.proofs.Entries.{any-next, any-hit}
-use Rattle.policy.specs.Lent.{lent}
 use Rattle.direct.proofs.Having.{row-having}
 use borrow.Author.Needs.{needs}
 use Rattle.direct.proofs.may_invoke.Statement.{statement}
