@@ -99,8 +99,11 @@ pub fn may_invoke(rights: &[u16], state: &[u16], user: u16, privilege: u16) -> b
     requires { ⌜ Sized (now state) × RightsFit (now rights) ⌝ }
     ensures { λ r. ⌜ r ≡ allowed (policyOf (lent [] [] (now (rights .entry)))) (decode (now (state .entry)) .rows) user privilege ⌝ }
 {
-    let having = roles_having(rights, privilege);
     let n = table::wide(state[ROW_COUNT_AT]);
+    if n == 0 {
+        return false;
+    }
+    let having = roles_having(rights, privilege);
     let mut i: usize = 0;
     while i < n {
         if row_carries(&having, table::row_at(state, i), user) {
