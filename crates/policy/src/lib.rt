@@ -36,7 +36,7 @@ fn end_of_kinds(kinds: &[u16]) -> u16
 }
 
 // "0 to 255 a role; 256 to 383 certificate kind .., which must be a row of the kinds table; 384 to 447 environment fact ..; 448 and above
-// malformed." The facts begin at six times 64 and are 64, so one division knows them.
+// malformed." There are 64 facts, and they begin at six times 64: one division knows them.
 fn condition_fits(kinds: &[u16], c: u16) -> bool
     requires { ⌜ length (now kinds) / 7 ≤ mostKinds ⌝ }
     ensures { λ r. ⌜ r ≡ conditionFits (kindsOnly (now (kinds .entry))) (meant c) ⌝ }
