@@ -44,7 +44,7 @@ module _ (most width : ℕ) (table : List ℕ) (n : ℕ) (wide : 0 < width) (siz
 -- ── loading ──
 
 -- a machine that has taken records of the policy only
-abbrev pub loading : Tables → ℕ → Machine
+abbrev loading : Tables → ℕ → Machine
 loading t taken = record { tables = t; state = replicate 1602 0; eventCame = false; taken = taken; written = []; stopped = false }
 
 module _ (rules kinds rights : List ℕ) (c : Counts) (size₁ : c .rules * 11 ≤ length rules) (size₂ : c .kinds * 7 ≤ length kinds) (size₃ : c .rights * 2 ≤ length rights) (l : Line) where
