@@ -119,6 +119,8 @@ two-numbers c bytes h = go (lt-or-ge (lineOf bytes .word) 1) (lt-or-ge (lineOf b
 
 -- ── the records of the policy, one after the other ──
 
+-- before each record: no more records were taken than bytes, each table has room for its most rows and no more than these, and the
+-- program comes to what a machine comes to that has taken the rows so far and goes on from here
 pub record Going (text rules kinds rights : List ℕ) (at taken : ℕ) (c : Counts) : Type 0 where
   pub in-text : at ≤ length text
   pub few : taken ≤ at
