@@ -44,7 +44,7 @@ module _ (most width : ℕ) (table : List ℕ) (n : ℕ) (wide : 0 < width) (siz
 -- ── loading ──
 
 -- a machine that has taken records of the policy only
-abbrev pub loading : Tables → ℕ → Machine
+abbrev loading : Tables → ℕ → Machine
 loading t taken = record { tables = t; state = replicate 1602 0; eventCame = false; taken = taken; written = []; stopped = false }
 
 module _ (rules kinds rights : List ℕ) (c : Counts) (size₁ : c .rules * 11 ≤ length rules) (size₂ : c .kinds * 7 ≤ length kinds) (size₃ : c .rights * 2 ≤ length rights) (l : Line) where
@@ -119,6 +119,8 @@ two-numbers c bytes h = go (lt-or-ge (lineOf bytes .word) 1) (lt-or-ge (lineOf b
 
 -- ── the records of the policy, one after the other ──
 
+-- before each record: no more records were taken than bytes, each table has room for its most rows and no more than these, and the
+-- program comes to what a machine comes to that has taken the rows so far and goes on from here
 pub record Going (text rules kinds rights : List ℕ) (at taken : ℕ) (c : Counts) : Type 0 where
   pub in-text : at ≤ length text
   pub few : taken ≤ at

@@ -48,6 +48,8 @@ event-behind text at h a b =
 
 -- ── the invariant ──
 
+-- before each record: no more records were taken than bytes, at most twice the bytes read are written, and what is written in the end is
+-- what a machine writes that holds this and goes on from here
 pub record Runs (t : Tables) (text : List ℕ) (from taken : ℕ) (s₀ : List ℕ) (sound-policy : Bool) (at n w : ℕ) (s out : List ℕ) : Type 0 where
   pub in-text : at ≤ length text
   pub few : n ≤ at

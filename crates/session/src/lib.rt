@@ -39,22 +39,22 @@ fn run(
 {
     let sound_policy = policy::policy_sound(rules, kinds, rights);
     let mut at = from;
-    let mut n = taken;
-    let mut w: usize = 0;
+    let mut number = taken;
+    let mut written: usize = 0;
     while at < text.len() {
         let line = reader::line_from(text, at);
-        n += 1;
+        number += 1;
         if line.word < POLICY_WORDS {
-            return writer::write_bad(out, w, n);
+            return writer::write_bad(out, written, number);
         }
         if WORDS <= line.word {
-            return writer::write_bad(out, w, n);
+            return writer::write_bad(out, written, number);
         }
         let answer = event::answer_event(rules, kinds, rights, sound_policy, state, line);
-        w = writer::write_answer(out, w, answer);
+        written = writer::write_answer(out, written, answer);
         at = reader::next_from(text, at);
     }
-    w
+    written
 }
 
 // The whole output for the whole input. Twice the input and 16 bytes more is always room enough: an answer is at most 13 bytes and an

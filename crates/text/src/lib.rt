@@ -37,7 +37,7 @@ const LEAST: [u16; WORDS as usize] = [2, 2, 2, 2, 3, 4, 3, 2, 1, 2, 3];
 const GREATEST: [u16; WORDS as usize] = [10, 6, 2, 2, 3, 4, 3, 2, 1, 2, 3];
 
 // The number of a field, or that it is none.
-pub enum Number {
+enum Number {
     Value(u16),
     Not,
 }
@@ -135,7 +135,7 @@ fn value_written(field: &[u8]) -> Number
     Number::Value(value)
 }
 
-pub fn number_of(field: &[u8]) -> Number
+fn number_of(field: &[u8]) -> Number
     ensures { λ r. ⌜ r ≡ numberOf (now (field .entry)) ⌝ }
 {
     if field.len() == 0 {
@@ -187,7 +187,7 @@ fn says_word(field: &[u8], word: u16) -> bool
 }
 
 // The number of the word that the field says; where it says none, the number past the last.
-pub fn word_of(field: &[u8]) -> u16
+fn word_of(field: &[u8]) -> u16
     ensures { λ r. ⌜ r ≡ wordOf (now (field .entry)) ⌝ }
 {
     let mut word: u16 = 0;

@@ -30,7 +30,7 @@ fn write_bytes(out: &mut [u8], at: usize, bytes: &[u8]) -> usize
 }
 
 // A digit, or the digits of the tenth part and a digit.
-pub fn write_decimal(out: &mut [u8], at: usize, n: usize) -> usize
+fn write_decimal(out: &mut [u8], at: usize, n: usize) -> usize
     requires { ⌜ at + length (decimal n) ≤ length (now out) ⌝ }
     ensures { λ r. ⌜ Wrote (now (out .entry)) (now (out .exit)) at (decimal n) r ⌝ }
 {
