@@ -22,7 +22,7 @@ use Rattle.table.specs.Entries.{rowAt, firstRows, Sized}
 use Rattle.table.proofs.Entries.{rows-more, length-entries}
 use Rattle.support.specs.Verdicts.{kept, Judged}
 use Rattle.table.specs.Writes.{Moved, Zeroed}
-use Rattle.fall.specs.Changes.{rowPlace, Settled, isKept, staying, Swept, Closed, RowsLeft}
+use Rattle.fall.specs.Pass.{rowPlace, Settled, isKept, staying, Swept, Closed, RowsLeft}
 use Rattle.table.proofs.Form.{Formed, as-encoded, facts-kept, certificates-kept, row-same, rows-first-same}
 
 pub swept-none : (stays : ℕ → Bool) (s : List ℕ) → Swept stays s s 0 0

@@ -13,7 +13,7 @@ ghost use Rattle.model.specs.Calls.{ofUser};
 ghost use Rattle.table.specs.Entries.{worldAt, Sized};
 ghost use Rattle.index.specs.Owned.{InRange};
 ghost use Rattle.table.specs.Writes.{Moved};
-ghost use Rattle.fall.specs.Changes.{rowPlace, Settled, isKept, Swept, Closed, RowsLeft};
+ghost use Rattle.fall.specs.Pass.{rowPlace, Settled, isKept, Swept, Closed, RowsLeft};
 use model::ROW_COUNT_AT;
 use model::ROW_WIDTH;
 use model::ROWS_AT;

@@ -158,7 +158,16 @@ module _ {A : Type 0} where
   at-place (x ∷ xs) zero d h = List·Memᴰ·head refl
   at-place (x ∷ xs) (suc i) d h = List·Memᴰ·tail (at-place xs i d (omega arith))
 
-  -- and one of the first n, where the place is one of theirs
+  -- a member stands at a place
+  pub place-of : (xs : List A) (d x : A) → List·Memᴰ x xs → (i : ℕ) × (i < length xs) × (x ≡ getD xs i d)
+  place-of [] d x m = absurd (List·Memᴰ·not-nil m)
+  place-of (y ∷ xs) d x m = go (place-of xs d x) (List·Memᴰ·cases-cons m)
+    where
+      go : (List·Memᴰ x xs → (i : ℕ) × (i < length xs) × (x ≡ getD xs i d)) → (x ≡ y) ⊎ List·Memᴰ x xs → (i : ℕ) × (i < suc (length xs)) × (x ≡ getD (y ∷ xs) i d)
+      go later (inl e) = (0, omega arith, e)
+      go later (inr h) = let p = later h in (suc (p .0), omega (arith, p .1), p .2)
+
+  -- the element at a place of the first n is one of them
   pub among-first : (xs : List A) (n i : ℕ) (d : A) → i < n → i < length xs → List·Memᴰ (getD xs i d) (take n xs)
   among-first xs n i d h k = subst (λ (x : A). List·Memᴰ x (take n xs)) (getD-take n xs i d h) (at-place (take n xs) i d (simp length-take (omega arith)))
 

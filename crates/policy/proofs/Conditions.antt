@@ -14,7 +14,7 @@ use Rattle.model.specs.Sound.{conditionFits}
 use Rattle.model.proofs.Tests.{lt-or-ge}
 use Rattle.model.proofs.Meaning.{meant-role, meant-kind, meant-fact, meant-nothing}
 use Rattle.table.proofs.Entries.{length-entries}
-use Rattle.policy.specs.Lent.{kindsOnly}
+use Rattle.table.specs.Entries.{kindsOnly}
 
 module _ (kinds : List ℕ) (few : length kinds / 7 ≤ 128) (c end : ℕ) (ends : end ≡ 256 + length kinds / 7) where
   has-row : ltb (c - 256) (length (kindsOnly kinds .kinds)) ≡ ltb (c - 256) (length kinds / 7)

@@ -1,4 +1,3 @@
-pub mod Clauses
 pub mod Places
 pub mod Conditions
 pub mod Rights

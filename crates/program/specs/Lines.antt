@@ -10,6 +10,7 @@ use Rattle.program.specs.Text.{isNumber, valueOf, said}
 use Rattle.program.specs.Vocabulary.{words, wordOf, numbered}
 use Rattle.program.specs.declared.Line.{Line}
 
+-- a rule's target, its m and its eight conditions: no word takes more
 abbrev pub mostNumbers : ℕ
 mostNumbers = 10
 

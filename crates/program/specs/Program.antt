@@ -54,7 +54,7 @@ kindRow l = number (l .numbers) 0 ∷ number (l .numbers) 1 ∷ (l .count - 2) �
 
 -- the row of a right: "role, privilege"
 abbrev pub rightRow : Line → List ℕ
-rightRow l = take 2 (l .numbers)
+rightRow l = take rightWidth (l .numbers)
 
 -- a line of the policy is one row more of its table
 unfoldable pub withRow : Tables → Line → Tables

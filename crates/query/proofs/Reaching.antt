@@ -14,7 +14,7 @@ use Rattle.model.specs.Layout.{policyOf, rowCount}
 use Rattle.model.specs.Conditions.{meant, isRow, membership, ruleNumbered, rolesAsked, restsOn}
 use Rattle.model.specs.declared.Row.{Row}
 use Rattle.model.specs.Words.{Sound}
-use Rattle.model.proofs.Tests.{lt-or-ge, is-true, of-true, is-false, of-false, and-left, and-right, and-both, any-of, of-any, at-place, repeated}
+use Rattle.model.proofs.Tests.{lt-or-ge, is-true, of-true, is-false, of-false, and-left, and-right, and-both, any-of, of-any, at-place, repeated, place-of}
 use Rattle.model.proofs.Support.{isRow-user, isRow-role, joined-of, of-joined}
 use Rattle.model.proofs.Carried.{reverse-last}
 use Rattle.table.specs.Entries.{rowAt, firstRows, withoutRights}
@@ -22,7 +22,7 @@ use Rattle.table.proofs.Entries.{rows-more}
 use Rattle.rests.specs.Newest.{newest}
 use Rattle.rests.specs.Asked.{HasAsked, AskedThrough, Grown}
 use Rattle.rests.proofs.Asking.{roles-same}
-use Rattle.rests.proofs.Marking.{place-of, mark-here, mark-only}
+use Rattle.rests.proofs.Marking.{mark-here, mark-only}
 use Rattle.direct.specs.Having.{hasRight}
 use Rattle.inner.proofs.Codes.{sound-sized}
 use Rattle.query.specs.Reached.{carried, reachedIn, restReaches, Ready, SomeReached, NoneReached, Tells}

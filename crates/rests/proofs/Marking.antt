@@ -11,22 +11,10 @@ use lib.ListN.{length, getD, take, set, length-set, length-take}
 use lib.Seq.{getD-set-same, getD-set-other, getD-take}
 use Rattle.model.specs.Layout.{policyOf}
 use Rattle.model.specs.Conditions.{meant, rolesAsked}
-use Rattle.model.proofs.Tests.{lt-or-ge, among-first}
+use Rattle.model.proofs.Tests.{lt-or-ge, among-first, place-of}
 use Rattle.table.specs.Entries.{withoutRights}
 use Rattle.rests.specs.Asked.{HasAsked, AskedThrough, Grown, ConditionAsked, Known, RowAsked}
 use Rattle.rests.proofs.Asking.{asked-role, asked-none}
-
--- a member stands at a place
-pub place-of : {A : Type 0} (l : List A) (d x : A) → List·Memᴰ x l → (i : ℕ) × (i < length l) × (x ≡ getD l i d)
-place-of [] d x m = absurd (List·Memᴰ·not-nil m)
-place-of {A} (y ∷ l) d x m = go (place-of l d x) (List·Memᴰ·cases-cons m)
-  where
-    further : (i : ℕ) × (i < length l) × (x ≡ getD l i d) → (i : ℕ) × (i < suc (length l)) × (x ≡ getD (y ∷ l) i d)
-    further h = (suc (h .0), omega (arith, h .1), h .2)
-
-    go : (List·Memᴰ x l → (i : ℕ) × (i < length l) × (x ≡ getD l i d)) → (x ≡ y) ⊎ List·Memᴰ x l → (i : ℕ) × (i < suc (length l)) × (x ≡ getD (y ∷ l) i d)
-    go later (inl e) = (0, omega arith, e)
-    go later (inr h) = further (later h)
 
 -- ── one mark more ──
 

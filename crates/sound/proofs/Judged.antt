@@ -17,10 +17,10 @@ use Rattle.model.specs.Sound.{rowClauses, rowSound}
 use Rattle.model.specs.declared.Row.{Row}
 use Rattle.model.proofs.Tests.{of-true, and-right, all-append, earlier-append, earlier-map}
 use Rattle.model.proofs.Sweep.{left-whole}
-use Rattle.table.specs.Entries.{rowAt, firstRows, worldAt, Sized}
+use Rattle.table.specs.Entries.{rowAt, firstRows, worldAt, Sized, rulesOnly}
 use Rattle.table.proofs.Entries.{rows-more}
 use Rattle.support.specs.Verdicts.{kept, verdict, Judged}
-use Rattle.sound.specs.Named.{nameClauses, rowNamed, rulesOnly, saidToStay}
+use Rattle.sound.specs.Fitting.{fitClauses, rowFits, saidToStay}
 
 -- ── two parts of a test ──
 
@@ -36,8 +36,8 @@ sorted true true true true false f = refl
 sorted true true true true true f = and-true f
 sorted true true false d e f = sym (and-false (d && (e && true)))
 
-row-parts : (w : World) (earlier : List Row) (r : Row) → rowSound w earlier r ≡ (rowNamed (w .policy) r && stays w earlier r)
-unfolding rowClauses nameClauses
+row-parts : (w : World) (earlier : List Row) (r : Row) → rowSound w earlier r ≡ (rowFits (w .policy) r && stays w earlier r)
+unfolding rowClauses fitClauses
 row-parts w earlier r =
     sorted (ltb (r .user) users) (ltb (r .role) roles) (not (active earlier (r .user) (r .role))) (ltb (r .rule) (length (w .policy .rules)))
     (eqb (ruleNumbered (w .policy) (r .rule) .target) (r .role))
@@ -56,8 +56,8 @@ module _ {A : Type 0} (test : List A → A → Bool) (alone : A → Bool) (over 
       (λ i. parts earlier x i && earlier-parts (earlier ++ (x ∷ [])) xs i)
       ∙ swapped (alone x) (over earlier x) (all alone xs) (allOverEarlier over (earlier ++ (x ∷ [])) xs)
 
-pub rows-parts : (w : World) (rows : List Row) → allOverEarlier (rowSound w) [] rows ≡ (all (rowNamed (w .policy)) rows && allOverEarlier (stays w) [] rows)
-rows-parts w rows = earlier-parts (rowSound w) (rowNamed (w .policy)) (stays w) (row-parts w) [] rows
+pub rows-parts : (w : World) (rows : List Row) → allOverEarlier (rowSound w) [] rows ≡ (all (rowFits (w .policy)) rows && allOverEarlier (stays w) [] rows)
+rows-parts w rows = earlier-parts (rowSound w) (rowFits (w .policy)) (stays w) (row-parts w) [] rows
 
 -- ── what was said ──
 
@@ -92,19 +92,19 @@ module _ (w : World) (s verdicts : List ℕ) (judged : Judged w s verdicts) wher
       go false f = refl
 
 module _ (rules kinds s : List ℕ) where
-  named-same : (rows : List Row) → all (rowNamed (rulesOnly rules)) rows ≡ all (rowNamed (worldAt rules kinds s .policy)) rows
-  unfolding nameClauses policyOf
+  named-same : (rows : List Row) → all (rowFits (rulesOnly rules)) rows ≡ all (rowFits (worldAt rules kinds s .policy)) rows
+  unfolding fitClauses policyOf
   named-same rows = refl
 
-  state-parts : allOverEarlier (rowSound (worldAt rules kinds s)) [] (decode s .rows) ≡ (all (rowNamed (rulesOnly rules)) (decode s .rows) && allOverEarlier (stays (worldAt rules kinds s)) [] (decode s .rows))
+  state-parts : allOverEarlier (rowSound (worldAt rules kinds s)) [] (decode s .rows) ≡ (all (rowFits (rulesOnly rules)) (decode s .rows) && allOverEarlier (stays (worldAt rules kinds s)) [] (decode s .rows))
   state-parts = rows-parts (worldAt rules kinds s) (decode s .rows) ∙ ap (λ (b : Bool). b && allOverEarlier (stays (worldAt rules kinds s)) [] (decode s .rows)) (sym (named-same (decode s .rows)))
 
   -- rows of which one is not named rightly are not sound
-  pub rows-unnamed : all (rowNamed (rulesOnly rules)) (decode s .rows) ≡ false → allOverEarlier (rowSound (worldAt rules kinds s)) [] (decode s .rows) ≡ false
+  pub rows-unnamed : all (rowFits (rulesOnly rules)) (decode s .rows) ≡ false → allOverEarlier (rowSound (worldAt rules kinds s)) [] (decode s .rows) ≡ false
   rows-unnamed e = state-parts ∙ ap (λ (b : Bool). b && allOverEarlier (stays (worldAt rules kinds s)) [] (decode s .rows)) e
 
   -- and rows that are are sound if of each it is said that it stays
-  pub rows-judged : (verdicts : List ℕ) (n : ℕ) → n ≡ rowCount s → Sized s → all (rowNamed (rulesOnly rules)) (decode s .rows) ≡ true → Judged (worldAt rules kinds s) s verdicts → all saidToStay (take n verdicts) ≡ allOverEarlier (rowSound (worldAt rules kinds s)) [] (decode s .rows)
+  pub rows-judged : (verdicts : List ℕ) (n : ℕ) → n ≡ rowCount s → Sized s → all (rowFits (rulesOnly rules)) (decode s .rows) ≡ true → Judged (worldAt rules kinds s) s verdicts → all saidToStay (take n verdicts) ≡ allOverEarlier (rowSound (worldAt rules kinds s)) [] (decode s .rows)
   unfolding decode firstRows
   rows-judged verdicts n count z e judged =
       ap (λ (k : ℕ). all saidToStay (take k verdicts)) count

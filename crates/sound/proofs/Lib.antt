@@ -1,4 +1,4 @@
-pub mod Parts
+pub mod Earlier
 pub mod Unread
 pub mod Searching
 pub mod Judged

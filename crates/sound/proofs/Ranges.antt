@@ -12,20 +12,19 @@ use Rattle.model.specs.Layout.{decode, policyOf, kindFrom}
 use Rattle.model.specs.Sound.{rowSound, certificateClauses, certificateSound, wellFormed, soundValues, sound}
 use Rattle.model.specs.declared.Row.{Row}
 use Rattle.model.proofs.Tests.{is-true, of-true, and-left, and-right, each, all-of, earlier-of}
-use Rattle.table.specs.Entries.{Sized}
+use Rattle.table.specs.Entries.{Sized, kindsOnly}
 use Rattle.table.proofs.Entries.{length-entries, sized}
 use Rattle.index.specs.Owned.{InRange, CertificatesInRange}
-use Rattle.policy.specs.Lent.{kindsOnly}
-use Rattle.sound.specs.Named.{nameClauses, rowNamed}
+use Rattle.sound.specs.Fitting.{fitClauses, rowFits}
 use Rattle.sound.proofs.Judged.{stays, rows-parts}
 
-row-bounds : (p : Policy) (r : Row) → T (rowNamed p r) → (r .user < 4096) × (r .role < 256)
-unfolding nameClauses
-row-bounds p r t = let h = each (nameClauses p r) t in (ltb→lt (r .user) 4096 (h .0), ltb→lt (r .role) 256 (h .1 .0))
+row-bounds : (p : Policy) (r : Row) → T (rowFits p r) → (r .user < 4096) × (r .role < 256)
+unfolding fitClauses
+row-bounds p r t = let h = each (fitClauses p r) t in (ltb→lt (r .user) 4096 (h .0), ltb→lt (r .role) 256 (h .1 .0))
 
 -- the rows are named rightly, and the certificates are in range
-pub ranges : (p : Policy) (s : List ℕ) → Sized s → CertificatesInRange s → all (rowNamed p) (decode s .rows) ≡ true → InRange s
-ranges p s z c e = record { sized = z; rows = λ r m. row-bounds p r (all-of (rowNamed p) (decode s .rows) (of-true (all (rowNamed p) (decode s .rows)) e) r m); certificates = c }
+pub ranges : (p : Policy) (s : List ℕ) → Sized s → CertificatesInRange s → all (rowFits p) (decode s .rows) ≡ true → InRange s
+ranges p s z c e = record { sized = z; rows = λ r m. row-bounds p r (all-of (rowFits p) (decode s .rows) (of-true (all (rowFits p) (decode s .rows)) e) r m); certificates = c }
 
 pub certificates-range : (p : Policy) (s : List ℕ) → length (p .kinds) ≤ 128 → allOverEarlier (certificateSound p) [] (decode s .certificates) ≡ true → CertificatesInRange s
 unfolding certificateClauses
@@ -49,5 +48,5 @@ sound-in-range p s few e =
     let r : T (soundValues p (decode s)) = and-right (wellFormed s) (soundValues p (decode s)) t in
     let a = and-left (allOverEarlier (certificateSound p) [] (decode s .certificates)) (allOverEarlier (rowSound (worldOf p (decode s))) [] (decode s .rows)) r in
     let b = and-right (allOverEarlier (certificateSound p) [] (decode s .certificates)) (allOverEarlier (rowSound (worldOf p (decode s))) [] (decode s .rows)) r in
-    let n = and-left (all (rowNamed p) (decode s .rows)) (allOverEarlier (stays (worldOf p (decode s))) [] (decode s .rows)) (subst T (rows-parts (worldOf p (decode s)) (decode s .rows)) b) in
-    ranges p s (sized s (is-true (wellFormed s) f)) (certificates-range p s few (is-true (allOverEarlier (certificateSound p) [] (decode s .certificates)) a)) (is-true (all (rowNamed p) (decode s .rows)) n)
+    let n = and-left (all (rowFits p) (decode s .rows)) (allOverEarlier (stays (worldOf p (decode s))) [] (decode s .rows)) (subst T (rows-parts (worldOf p (decode s)) (decode s .rows)) b) in
+    ranges p s (sized s (is-true (wellFormed s) f)) (certificates-range p s few (is-true (allOverEarlier (certificateSound p) [] (decode s .certificates)) a)) (is-true (all (rowFits p) (decode s .rows)) n)

@@ -8,11 +8,10 @@ ghost use Rattle.model.specs.Lists.{all, any, allOverEarlier, isBit};
 ghost use Rattle.model.specs.Limits.{stateSize, mostCertificates, mostKinds};
 ghost use Rattle.model.specs.Layout.{decode, policyOf, factNumbers};
 ghost use Rattle.model.specs.Sound.{wellFormed, sameCertificate, certificateSound, rowSound, sound};
-ghost use Rattle.table.specs.Entries.{certificateAt, firstCertificates, withoutRights, worldAt, Sized};
+ghost use Rattle.table.specs.Entries.{certificateAt, firstCertificates, withoutRights, worldAt, Sized, kindsOnly, rulesOnly};
 ghost use Rattle.index.specs.Owned.{CertificatesInRange};
-ghost use Rattle.policy.specs.Lent.{kindsOnly};
 ghost use Rattle.sound.specs.Seen.{beginning, bits, Seen};
-ghost use Rattle.sound.specs.Named.{rowNamed, rulesOnly, saidToStay};
+ghost use Rattle.sound.specs.Fitting.{rowFits, saidToStay};
 use model::CERTIFICATE_COUNT_AT;
 use model::CERTIFICATE_WIDTH;
 use model::CERTIFICATES_AT;
@@ -174,8 +173,8 @@ fn certificates_sound(kinds: &[u16], state: &[u16]) -> bool
 }
 
 // "ranges are kept, .. each active row's rule exists and has that role as target"
-fn row_named(rules: &[u16], row: Row) -> bool
-    ensures { λ r. ⌜ r ≡ rowNamed (rulesOnly (now (rules .entry))) row ⌝ }
+fn row_fits(rules: &[u16], row: Row) -> bool
+    ensures { λ r. ⌜ r ≡ rowFits (rulesOnly (now (rules .entry))) row ⌝ }
 {
     if row.user >= USERS {
         return false;
@@ -191,14 +190,14 @@ fn row_named(rules: &[u16], row: Row) -> bool
     rule.target == row.role
 }
 
-fn rows_named(rules: &[u16], state: &[u16]) -> bool
+fn rows_fit(rules: &[u16], state: &[u16]) -> bool
     requires { ⌜ Sized (now state) ⌝ }
-    ensures { λ r. ⌜ r ≡ all (rowNamed (rulesOnly (now (rules .entry)))) (decode (now (state .entry)) .rows) ⌝ }
+    ensures { λ r. ⌜ r ≡ all (rowFits (rulesOnly (now (rules .entry)))) (decode (now (state .entry)) .rows) ⌝ }
 {
     let n = table::wide(state[ROW_COUNT_AT]);
     let mut i: usize = 0;
     while i < n {
-        if !row_named(rules, table::row_at(state, i)) {
+        if !row_fits(rules, table::row_at(state, i)) {
             return false;
         }
         i += 1;
@@ -227,7 +226,7 @@ fn rows_sound(rules: &[u16], kinds: &[u16], state: &[u16]) -> bool
     requires { ⌜ Sized (now state) × CertificatesInRange (now state) ⌝ }
     ensures { λ r. ⌜ r ≡ allOverEarlier (rowSound (worldAt (now (rules .entry)) (now (kinds .entry)) (now (state .entry)))) [] (decode (now (state .entry)) .rows) ⌝ }
 {
-    if !rows_named(rules, state) {
+    if !rows_fit(rules, state) {
         return false;
     }
     let mut verdicts = [0u8; 256];

@@ -3,3 +3,4 @@ pub mod Worlds
 pub mod Writes
 pub mod Zeros
 pub mod Form
+pub mod Clauses

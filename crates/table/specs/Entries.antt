@@ -6,7 +6,7 @@ use mathlib.Core.List.{List, [], map}
 use lib.ListN.{length, take, drop}
 use Rattle.model.specs.Lists.{rowsOf}
 use Rattle.model.specs.Limits.{ruleWidth, kindWidth, rightWidth, rowWidth, certificateWidth, mostRows, mostCertificates, stateSize}
-use Rattle.model.specs.Values.{Tables, World, worldOf}
+use Rattle.model.specs.Values.{Tables, Policy, World, worldOf}
 use Rattle.model.specs.Layout.{ruleFrom, kindFrom, rightFrom, rowFrom, certificateFrom, rowNumbers, certificateNumbers, rowCount, certificateCount, policyOf, decode}
 use Rattle.model.specs.declared.Rule.{Rule}
 use Rattle.model.specs.declared.Kind.{Kind}
@@ -51,6 +51,13 @@ lent rules kinds rights = record { rules = rules; kinds = kinds; rights = rights
 -- the same without rights: whoever judges conditions reads none
 abbrev pub withoutRights : List ℕ → List ℕ → Tables
 withoutRights rules kinds = lent rules kinds []
+
+-- the policy that the lent rules alone make, and that of the lent kinds alone: a rule and a certificate name kinds and nothing else of it
+abbrev pub rulesOnly : List ℕ → Policy
+rulesOnly rules = policyOf (withoutRights rules [])
+
+abbrev pub kindsOnly : List ℕ → Policy
+kindsOnly kinds = policyOf (withoutRights [] kinds)
 
 -- what conditions are judged against
 abbrev pub worldAt : List ℕ → List ℕ → List ℕ → World

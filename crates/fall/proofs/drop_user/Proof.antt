@@ -9,7 +9,7 @@ use Rattle.model.specs.Calls.{ofUser}
 use Rattle.model.specs.declared.Row.{Row}
 use Rattle.table.specs.Entries.{rowAt, firstRows}
 use Rattle.table.proofs.Entries.{sized}
-use Rattle.fall.specs.Changes.{Settled, Swept}
+use Rattle.fall.specs.Pass.{Settled, Swept}
 use Rattle.table.proofs.Form.{formed}
 use Rattle.fall.proofs.Swept.{swept-none, swept-more, swept-sized, swept-row, swept-closed, staying-without}
 use borrow.Author.Needs.{needs}

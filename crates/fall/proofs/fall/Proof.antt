@@ -2,7 +2,7 @@ use mathlib.Core.Path.{refl, sym, _∙_}
 use native.Mathlib.Omega.{arith}
 use Rattle.model.specs.Layout.{decode, rowCount}
 use Rattle.table.specs.Entries.{firstRows, worldAt}
-use Rattle.fall.specs.Changes.{isKept}
+use Rattle.fall.specs.Pass.{isKept}
 use Rattle.table.proofs.Form.{formed}
 use Rattle.fall.proofs.Swept.{swept-closed, none-left, staying-left}
 use borrow.Author.Needs.{needs}

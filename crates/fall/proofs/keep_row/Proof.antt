@@ -2,7 +2,7 @@ use Prim.Native.Nat.{ℕ}
 use mathlib.Core.Path.{_≡_, subst}
 use native.Mathlib.Omega.{arith}
 use Rattle.table.specs.Writes.{Moved}
-use Rattle.fall.specs.Changes.{rowPlace}
+use Rattle.fall.specs.Pass.{rowPlace}
 use Rattle.table.proofs.Writes.{moved-still}
 use borrow.Author.Needs.{needs}
 use Rattle.fall.proofs.keep_row.Statement.{statement}

@@ -2,7 +2,7 @@
 use Prim.Native.Nat.{ℕ, _-_, _≤_}
 use mathlib.Core.Path.{_≡_, subst}
 use native.Mathlib.Omega.{arith}
-use Rattle.fall.specs.Changes.{isKept, Swept}
+use Rattle.fall.specs.Pass.{isKept, Swept}
 use Rattle.fall.proofs.Swept.{swept-none, swept-more, swept-sized}
 use borrow.Author.Needs.{needs}
 use Rattle.fall.proofs.sweep.Statement.{statement}

@@ -10,7 +10,7 @@ use lib.Seq.{take-all}
 use Rattle.model.specs.Lists.{isZero}
 use Rattle.model.specs.Conditions.{meant}
 use Rattle.model.specs.Sound.{conditionFits}
-use Rattle.policy.specs.Lent.{kindsOnly}
+use Rattle.table.specs.Entries.{kindsOnly}
 use Rattle.policy.proofs.Conditions.{unfit-not-zero}
 use Rattle.policy.proofs.Places.{mixed, mixed-parts, mixed-more}
 use borrow.Author.Needs.{needs}

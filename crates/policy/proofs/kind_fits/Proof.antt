@@ -1,7 +1,7 @@
 use mathlib.Core.Path.{sym, _∙_}
 use borrow.Author.Tests.{lt-ltb, le-ltb, le-leb, lt-leb, not-true, not-false}
 use Rattle.model.specs.Sound.{kindClauses}
-use Rattle.policy.proofs.Clauses.{here, later, fails-at, passes-at, one-fails, both-pass}
+use Rattle.table.proofs.Clauses.{here, later, fails-at, passes-at, one-fails, both-pass}
 use borrow.Author.Needs.{needs}
 use Rattle.policy.proofs.kind_fits.Statement.{statement}
 use Rattle.policy.proofs.kind_fits.Tie as tie

@@ -5,10 +5,9 @@ use lib.ListN.{length}
 use borrow.Author.Tests.{le-leb, lt-leb, eq-eqb, ne-eqb, not-true, not-false}
 use Rattle.model.specs.Layout.{ruleFrom, kindFrom, rightFrom, policyOf}
 use Rattle.model.specs.Sound.{policyClauses}
-use Rattle.table.specs.Entries.{lent}
+use Rattle.table.specs.Entries.{lent, kindsOnly}
 use Rattle.table.proofs.Entries.{length-entries}
-use Rattle.policy.specs.Lent.{kindsOnly}
-use Rattle.policy.proofs.Clauses.{here, later, fails, passes}
+use Rattle.table.proofs.Clauses.{here, later, fails, passes}
 use Rattle.policy.proofs.Unread.{rules-fit-same}
 use borrow.Author.Needs.{needs}
 use Rattle.policy.proofs.policy_sound.Statement.{statement}

@@ -2,8 +2,8 @@ use mathlib.Core.Path.{sym, _∙_}
 use native.Mathlib.Omega.{arith}
 use borrow.Author.Tests.{lt-ltb, le-ltb, le-leb, lt-leb, not-true, not-false}
 use Rattle.model.specs.Sound.{ruleClauses}
-use Rattle.policy.specs.Lent.{kindsOnly}
-use Rattle.policy.proofs.Clauses.{here, later, fails-at, passes-at, one-fails, both-pass}
+use Rattle.table.specs.Entries.{kindsOnly}
+use Rattle.table.proofs.Clauses.{here, later, fails-at, passes-at, one-fails, both-pass}
 use borrow.Author.Needs.{needs}
 use Rattle.policy.proofs.rule_fits.Statement.{statement}
 use Rattle.policy.proofs.rule_fits.Tie as tie

@@ -8,8 +8,7 @@ use borrow.Author.Tests.{not-true, not-false}
 use Rattle.model.specs.Lists.{all}
 use Rattle.model.specs.Layout.{ruleFrom, policyOf}
 use Rattle.model.specs.Sound.{ruleFits}
-use Rattle.table.specs.Entries.{entries, ruleAt}
-use Rattle.policy.specs.Lent.{kindsOnly}
+use Rattle.table.specs.Entries.{entries, ruleAt, kindsOnly}
 use Rattle.table.proofs.Entries.{entries-all-next, entries-all-miss}
 use borrow.Author.Needs.{needs}
 use Rattle.policy.proofs.rules_fit.Statement.{statement}

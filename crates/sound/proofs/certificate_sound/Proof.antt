@@ -8,10 +8,9 @@ use Rattle.model.specs.Layout.{kindFrom, policyOf}
 use Rattle.model.specs.Lists.{any}
 use Rattle.model.specs.Sound.{sameCertificate, certificateClauses}
 use Rattle.model.specs.declared.Certificate.{Certificate}
-use Rattle.table.specs.Entries.{firstCertificates}
+use Rattle.table.specs.Entries.{firstCertificates, kindsOnly}
 use Rattle.table.proofs.Entries.{length-entries}
-use Rattle.policy.specs.Lent.{kindsOnly}
-use Rattle.policy.proofs.Clauses.{here, later, fails-at, passes-at}
+use Rattle.table.proofs.Clauses.{here, later, fails-at, passes-at}
 use native.Mathlib.Omega.{arith}
 use borrow.Author.Needs.{needs}
 use Rattle.sound.proofs.certificate_sound.Statement.{statement}

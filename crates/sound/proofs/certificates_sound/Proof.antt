@@ -4,8 +4,7 @@ use Prim.Native.Nat.{ℕ}
 use Rattle.model.specs.Lists.{allOverEarlier}
 use Rattle.model.specs.Layout.{decode}
 use Rattle.model.specs.Sound.{certificateSound}
-use Rattle.table.specs.Entries.{firstCertificates}
-use Rattle.policy.specs.Lent.{kindsOnly}
+use Rattle.table.specs.Entries.{firstCertificates, kindsOnly}
 use Rattle.sound.proofs.Searching.{seen-none}
 use borrow.Author.Needs.{needs}
 use Rattle.sound.proofs.certificates_sound.Statement.{statement}

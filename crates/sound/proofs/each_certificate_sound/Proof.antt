@@ -9,10 +9,9 @@ use borrow.Author.Tests.{not-true, not-false}
 use Rattle.model.specs.Lists.{allOverEarlier}
 use Rattle.model.specs.Layout.{certificateFrom, certificateNumbers, certificateCount, decode}
 use Rattle.model.specs.Sound.{certificateSound}
-use Rattle.table.specs.Entries.{certificateAt, firstCertificates}
-use Rattle.policy.specs.Lent.{kindsOnly}
+use Rattle.table.specs.Entries.{certificateAt, firstCertificates, kindsOnly}
 use Rattle.sound.specs.Seen.{Seen}
-use Rattle.sound.proofs.Parts.{earlier-next, earlier-miss}
+use Rattle.sound.proofs.Earlier.{earlier-next, earlier-miss}
 use borrow.Author.Needs.{needs}
 use Rattle.sound.proofs.each_certificate_sound.Statement.{statement}
 use Rattle.sound.proofs.each_certificate_sound.Tie as tie

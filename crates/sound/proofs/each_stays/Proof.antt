@@ -7,7 +7,7 @@ use lib.ListN.{take, getD}
 use borrow.Author.Tests.{eq-eqb, ne-eqb}
 use Rattle.model.specs.Lists.{all}
 use Rattle.table.proofs.Entries.{all-next, all-miss}
-use Rattle.sound.specs.Named.{saidToStay}
+use Rattle.sound.specs.Fitting.{saidToStay}
 use borrow.Author.Needs.{needs}
 use Rattle.sound.proofs.each_stays.Statement.{statement}
 use Rattle.sound.proofs.each_stays.Tie as tie

@@ -6,10 +6,9 @@ use borrow.Author.Tests.{not-true, not-false}
 use Rattle.model.specs.Lists.{every, allOverEarlier}
 use Rattle.model.specs.Layout.{decode, policyOf}
 use Rattle.model.specs.Sound.{wellFormed, certificateSound, rowSound, soundValues, sound}
-use Rattle.table.specs.Entries.{withoutRights, worldAt}
+use Rattle.table.specs.Entries.{withoutRights, worldAt, kindsOnly}
 use Rattle.table.proofs.Entries.{sized}
-use Rattle.policy.specs.Lent.{kindsOnly}
-use Rattle.policy.proofs.Clauses.{here, later, fails, passes}
+use Rattle.table.proofs.Clauses.{here, later, fails, passes}
 use Rattle.sound.proofs.Ranges.{certificates-range, few-kinds}
 use Rattle.sound.proofs.Unread.{certificates-same}
 use borrow.Author.Needs.{needs}

@@ -5,7 +5,7 @@ use borrow.Author.Tests.{le-leb, lt-leb, eq-eqb, ne-eqb, not-true, not-false}
 use Rattle.model.specs.Lists.{all, isZero}
 use Rattle.model.specs.Layout.{rowCount, certificateCount}
 use Rattle.model.specs.Sound.{formClauses}
-use Rattle.policy.proofs.Clauses.{here, later, fails, passes}
+use Rattle.table.proofs.Clauses.{here, later, fails, passes}
 use Rattle.table.proofs.Zeros.{past}
 use borrow.Author.Needs.{needs}
 use Rattle.sound.proofs.well_formed.Statement.{statement}

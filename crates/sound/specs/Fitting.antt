@@ -7,26 +7,20 @@ use lib.ListN.{length}
 use Rattle.model.specs.Lists.{every}
 use Rattle.model.specs.Limits.{users, roles}
 use Rattle.model.specs.Values.{Policy}
-use Rattle.model.specs.Layout.{policyOf}
 use Rattle.model.specs.Conditions.{ruleNumbered}
 use Rattle.model.specs.declared.Row.{Row}
-use Rattle.table.specs.Entries.{withoutRights}
-
--- of a policy the rules alone
-abbrev pub rulesOnly : List ℕ → Policy
-rulesOnly rules = policyOf (withoutRights rules [])
 
 -- "ranges are kept, .. each active row's rule exists and has that role as target"
-unfoldable pub nameClauses : Policy → Row → List Bool
-nameClauses p r =
+unfoldable pub fitClauses : Policy → Row → List Bool
+fitClauses p r =
     ltb (r .user) users
     ∷ ltb (r .role) roles
     ∷ ltb (r .rule) (length (p .rules))
     ∷ eqb (ruleNumbered p (r .rule) .target) (r .role)
     ∷ []
 
-abbrev pub rowNamed : Policy → Row → Bool
-rowNamed p r = every (nameClauses p r)
+abbrev pub rowFits : Policy → Row → Bool
+rowFits p r = every (fitClauses p r)
 
 -- the verdict on a row is that it stays
 abbrev pub saidToStay : ℕ → Bool
