@@ -14,6 +14,7 @@ use model::CERTIFICATE_WIDTH;
 use model::CERTIFICATES_AT;
 use model::Certificate;
 use model::ROW_COUNT_AT;
+use model::ROW_WIDTH;
 use model::Row;
 
 // The table that stands behind its count at a place has one entry more. Rows and certificates are three numbers each.
@@ -22,7 +23,7 @@ fn append(state: &mut [u16], at: usize, x: u16, y: u16, z: u16)
     ensures { λ r. ⌜ Appended (now (state .entry)) (now (state .exit)) at x y z ⌝ }
 {
     let n = table::wide(state[at]);
-    let b = n * 3 + at;
+    let b = n * ROW_WIDTH + at;
     state[b + 1] = x;
     state[b + 2] = y;
     state[b + 3] = z;

@@ -5,7 +5,7 @@ ghost use mathlib.Core.List.{[]};
 ghost use Prim.Native.Nat.{_+_, _/_, _≤_};
 ghost use lib.Dec.{eqb};
 ghost use lib.ListN.{length};
-ghost use Rattle.model.specs.Limits.{roles};
+ghost use Rattle.model.specs.Limits.{roles, rightWidth};
 ghost use Rattle.model.specs.Layout.{decode, policyOf};
 ghost use Rattle.model.specs.Calls.{allowed};
 ghost use Rattle.table.specs.Entries.{lent, Sized};
@@ -34,7 +34,7 @@ fn is_met(rights: &[u16], from: usize, privilege: u16) -> bool
 
 // The roles that have the privilege by the rights of some places are noted beside those that have it by the rights before.
 fn note(rights: &[u16], privilege: u16, from: usize, to: usize, having: &mut [bool])
-    requires { ⌜ RightsFit (now rights) × (from ≤ to) × (to ≤ length (now rights) / 2) × (length (now having) ≡ roles) × Said (now rights) privilege from (now having) ⌝ }
+    requires { ⌜ RightsFit (now rights) × (from ≤ to) × (to ≤ length (now rights) / rightWidth) × (length (now having) ≡ roles) × Said (now rights) privilege from (now having) ⌝ }
     ensures { λ r. ⌜ Said (now (rights .entry)) privilege to (now (having .exit)) ⌝ }
 {
     let mut i = from;
@@ -49,7 +49,7 @@ fn note(rights: &[u16], privilege: u16, from: usize, to: usize, having: &mut [bo
 
 // The same for sixteen rights: they are read one by one only where the privilege is met among their numbers.
 fn note_sixteen(rights: &[u16], privilege: u16, from: usize, having: &mut [bool])
-    requires { ⌜ RightsFit (now rights) × (from + 16 ≤ length (now rights) / 2) × (length (now having) ≡ roles) × Said (now rights) privilege from (now having) ⌝ }
+    requires { ⌜ RightsFit (now rights) × (from + 16 ≤ length (now rights) / rightWidth) × (length (now having) ≡ roles) × Said (now rights) privilege from (now having) ⌝ }
     ensures { λ r. ⌜ Said (now (rights .entry)) privilege (from + 16) (now (having .exit)) ⌝ }
 {
     if !is_met(rights, from * RIGHT_WIDTH, privilege) {

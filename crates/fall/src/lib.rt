@@ -11,9 +11,10 @@ ghost use Rattle.model.specs.Left.{left};
 ghost use Rattle.model.specs.Sound.{wellFormed};
 ghost use Rattle.model.specs.Calls.{ofUser};
 ghost use Rattle.table.specs.Entries.{worldAt, Sized};
-ghost use Rattle.index.specs.Owned.{InRange};
+ghost use Rattle.marks.specs.Owned.{InRange};
 ghost use Rattle.table.specs.Writes.{Moved};
 ghost use Rattle.fall.specs.Pass.{rowPlace, Settled, isKept, Swept, Closed, RowsLeft};
+use model::MOST_ROWS;
 use model::ROW_COUNT_AT;
 use model::ROW_WIDTH;
 use model::ROWS_AT;
@@ -78,7 +79,7 @@ pub fn fall(rules: &[u16], kinds: &[u16], state: &mut [u16]) -> u16
     if n == 0 {
         return 0;
     }
-    let mut verdicts = [0u8; 256];
+    let mut verdicts = [0u8; MOST_ROWS];
     support::judge_rows(rules, kinds, state, &mut verdicts);
     let w = sweep(state, &verdicts, n);
     close(state, w, n)

@@ -20,9 +20,9 @@ use Rattle.model.proofs.Tests.{of-true, of-false, found-any, not-found}
 use Rattle.table.specs.Entries.{worldAt, withoutRights}
 use Rattle.table.proofs.Entries.{length-entries}
 use Rattle.table.proofs.Worlds.{satisfied-same}
-use Rattle.index.specs.Marked.{has, satisfiedBy}
-use Rattle.index.specs.Owned.{Own}
-use Rattle.index.proofs.Owning.{satisfied-own}
+use Rattle.marks.specs.Marked.{has, satisfiedBy}
+use Rattle.marks.specs.Owned.{Own}
+use Rattle.marks.proofs.Owning.{satisfied-own}
 use Rattle.inner.specs.Promise.{lent, Answers}
 use Rattle.inner.proofs.Codes.{own-refuses, own-accepts, out-of-range, in-range, found, row-length}
 

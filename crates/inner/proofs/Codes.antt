@@ -20,7 +20,7 @@ use Rattle.model.specs.declared.Answer.{Answer}
 use Rattle.model.proofs.Numbers.{sound-formed}
 use Rattle.table.specs.Entries.{firstRows, Sized}
 use Rattle.table.proofs.Entries.{length-entries, sized}
-use Rattle.index.specs.Owned.{InRange}
+use Rattle.marks.specs.Owned.{InRange}
 use Rattle.sound.proofs.Ranges.{sound-in-range}
 use Rattle.inner.specs.Promise.{lent, AnswersWith}
 use Rattle.model.proofs.Tests.{is-true, of-true, of-false, not-not-of, Each, each, of-each}

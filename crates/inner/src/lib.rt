@@ -11,7 +11,7 @@ ghost use Rattle.model.specs.Sound.{sameCertificate};
 ghost use Rattle.model.specs.Calls.{fresh as freshCall, activate as activateCall, appoint as appointCall};
 ghost use Rattle.model.specs.Words.{Sound};
 ghost use Rattle.table.specs.Entries.{worldAt, withoutRights, Sized};
-ghost use Rattle.index.specs.Marked.{ownMarks, has, satisfiedBy};
+ghost use Rattle.marks.specs.Marked.{ownMarks, has, satisfiedBy};
 ghost use Rattle.inner.specs.Promise.{lent, Answers};
 use model::ALREADY_ACTIVE;
 use model::Answer;
@@ -49,7 +49,7 @@ fn lowest_satisfied(rules: &[u16], kinds: &[u16], state: &[u16], own: &[bool], r
     while i < n {
         let rule = table::rule_at(rules, i);
         if rule.target == role {
-            if index::rule_holds(kinds, state, own, rule) {
+            if marks::rule_holds(kinds, state, own, rule) {
                 return i;
             }
         }
@@ -101,12 +101,12 @@ pub fn activate(
     if ROLES <= role {
         return refused(OUT_OF_RANGE);
     }
-    let mut own = [false; index::OWN_MARKS];
-    index::mark_roles(state, user, &mut own);
-    if index::role_marked(&own, role) {
+    let mut own = [false; marks::OWN_MARKS];
+    marks::mark_roles(state, user, &mut own);
+    if marks::role_marked(&own, role) {
         return refused(ALREADY_ACTIVE);
     }
-    index::mark_kinds(state, user, &mut own);
+    marks::mark_kinds(state, user, &mut own);
     let i = lowest_satisfied(rules, kinds, state, &own, role);
     if rules.len() / RULE_WIDTH <= i {
         return refused(NO_RULE_SATISFIED);

@@ -27,6 +27,11 @@ pub const MOST_ROWS: usize = 256;
 
 pub const MOST_CERTIFICATES: usize = 256;
 
+// How many conditions a rule may have, and how many prerequisite roles a kind.
+pub const MOST_CONDITIONS: usize = 8;
+
+pub const MOST_PREREQUISITES: usize = 4;
+
 // How many numbers a row of each table has.
 pub const RULE_WIDTH: usize = 11;
 
@@ -40,6 +45,8 @@ pub const CERTIFICATE_WIDTH: usize = 3;
 
 // Where the tables of a state stand, and how many numbers it has. The facts come first.
 pub const STATE_SIZE: usize = 1602;
+
+pub const LIST_SIZE: usize = 256;
 
 pub const FACTS_END: usize = 64;
 

@@ -7,7 +7,7 @@ ghost use mathlib.Core.Logic.{_≢_};
 ghost use lib.Dec.{eqb, ltb};
 ghost use lib.ListN.{length, take, drop};
 ghost use Rattle.model.specs.Lists.{all, isZero};
-ghost use Rattle.model.specs.Limits.{roles, mostKinds};
+ghost use Rattle.model.specs.Limits.{roles, mostKinds, kindWidth, rightWidth, ruleWidth};
 ghost use Rattle.model.specs.Layout.{policyOf, rightFrom};
 ghost use Rattle.model.specs.Conditions.{meant};
 ghost use Rattle.model.specs.Sound.{conditionFits, ruleFits, kindFits, rightFits, soundPolicy};
@@ -28,8 +28,8 @@ const MODES: u16 = 3;
 
 // Where the conditions that are kinds of the policy end.
 fn end_of_kinds(kinds: &[u16]) -> u16
-    requires { ⌜ length (now kinds) / 7 ≤ mostKinds ⌝ }
-    ensures { λ r. ⌜ r ≡ 256 + length (now (kinds .entry)) / 7 ⌝ }
+    requires { ⌜ length (now kinds) / kindWidth ≤ mostKinds ⌝ }
+    ensures { λ r. ⌜ r ≡ 256 + length (now (kinds .entry)) / kindWidth ⌝ }
 {
     FIRST_KIND + (kinds.len() / KIND_WIDTH) as u16
 }
@@ -37,7 +37,7 @@ fn end_of_kinds(kinds: &[u16]) -> u16
 // "0 to 255 a role; 256 to 383 certificate kind .., which must be a row of the kinds table; 384 to 447 environment fact ..; 448 and above
 // malformed." There are 64 facts, and they begin at six times 64: one division knows them.
 fn condition_fits(kinds: &[u16], c: u16) -> bool
-    requires { ⌜ length (now kinds) / 7 ≤ mostKinds ⌝ }
+    requires { ⌜ length (now kinds) / kindWidth ≤ mostKinds ⌝ }
     ensures { λ r. ⌜ r ≡ conditionFits (kindsOnly (now (kinds .entry))) (meant c) ⌝ }
 {
     if c < end_of_kinds(kinds) {
@@ -70,7 +70,7 @@ fn wrong(x: u16, fits: bool, counts: bool) -> u16
 
 // The first n of the conditions fit, and those past n are 0. What is wrong is joined: all eight are looked at, in one way through the loop.
 fn conditions_fit(kinds: &[u16], counting: &[u16], conditions: [u16; 8], n: usize) -> bool
-    requires { ⌜ (length (now kinds) / 7 ≤ mostKinds) × Counting (now counting) × (n ≤ 8) ⌝ }
+    requires { ⌜ (length (now kinds) / kindWidth ≤ mostKinds) × Counting (now counting) × (n ≤ 8) ⌝ }
     ensures { λ r. ⌜ r ≡ (all (λ (c : ℕ). conditionFits (kindsOnly (now (kinds .entry))) (meant c)) (take n conditions) && all isZero (drop n conditions)) ⌝ }
 {
     let mut joined: u16 = 0;
@@ -85,7 +85,7 @@ fn conditions_fit(kinds: &[u16], counting: &[u16], conditions: [u16; 8], n: usiz
 
 // "target role, n, m, then eight conditions, those past n being 0. m ≤ n ≤ 8."
 fn rule_fits(rules: &[u16], kinds: &[u16], counting: &[u16], i: usize) -> bool
-    requires { ⌜ (i < length (now rules) / 11) × (length (now kinds) / 7 ≤ mostKinds) × Counting (now counting) ⌝ }
+    requires { ⌜ (i < length (now rules) / ruleWidth) × (length (now kinds) / kindWidth ≤ mostKinds) × Counting (now counting) ⌝ }
     ensures { λ r. ⌜ r ≡ ruleFits (kindsOnly (now (kinds .entry))) (ruleAt (now (rules .entry)) i) ⌝ }
 {
     let rule = table::rule_at(rules, i);
@@ -107,7 +107,7 @@ fn rule_fits(rules: &[u16], kinds: &[u16], counting: &[u16], i: usize) -> bool
 }
 
 fn rules_fit(rules: &[u16], kinds: &[u16], counting: &[u16]) -> bool
-    requires { ⌜ (length (now kinds) / 7 ≤ mostKinds) × Counting (now counting) ⌝ }
+    requires { ⌜ (length (now kinds) / kindWidth ≤ mostKinds) × Counting (now counting) ⌝ }
     ensures { λ r. ⌜ r ≡ all (ruleFits (kindsOnly (now (kinds .entry)))) (policyOf (withoutRights (now (rules .entry)) []) .rules) ⌝ }
 {
     let n = rules.len() / RULE_WIDTH;
@@ -138,7 +138,7 @@ fn prerequisites_fit(counting: &[u16], prerequisites: [u16; 4], s: usize) -> boo
 
 // "appointer role, mode, s, then four prerequisite roles, those past s being 0. s ≤ 4."
 fn kind_fits(kinds: &[u16], counting: &[u16], k: usize) -> bool
-    requires { ⌜ (k < length (now kinds) / 7) × Counting (now counting) ⌝ }
+    requires { ⌜ (k < length (now kinds) / kindWidth) × Counting (now counting) ⌝ }
     ensures { λ r. ⌜ r ≡ kindFits (kindAt (now (kinds .entry)) k) ⌝ }
 {
     let kind = table::kind_at(kinds, k);
@@ -232,7 +232,7 @@ fn over_limits(rights: &[u16], limits: &[u16], from: usize) -> u16
 
 // The rights fit, of which those before a place are known to.
 fn rest_fits(rights: &[u16], from: usize) -> bool
-    requires { ⌜ (from ≤ length (now rights) / 2) × (all rightFits (entries rightFrom 2 (now rights) from) ≡ true) ⌝ }
+    requires { ⌜ (from ≤ length (now rights) / rightWidth) × (all rightFits (entries rightFrom rightWidth (now rights) from) ≡ true) ⌝ }
     ensures { λ r. ⌜ r ≡ all rightFits (policyOf (lent [] [] (now (rights .entry))) .rights) ⌝ }
 {
     let n = rights.len() / RIGHT_WIDTH;

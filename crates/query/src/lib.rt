@@ -10,10 +10,11 @@ ghost use Rattle.model.specs.Calls.{invoke as invokeCall, effective as effectiv
 ghost use Rattle.model.specs.Words.{Sound};
 ghost use Rattle.table.specs.Entries.{withoutRights};
 ghost use Rattle.inner.specs.Promise.{lent, Answers, AnswersWith};
-ghost use Rattle.rests.specs.Asked.{AskedThrough};
+ghost use Rattle.rests.specs.Asked.{askedMarks, AskedThrough};
 ghost use Rattle.query.specs.Reached.{restReaches, Ready, Tells};
 use model::Answer;
 use model::FIRST_FACT;
+use model::LIST_SIZE;
 use model::NOT_ACTIVE;
 use model::OUT_OF_RANGE;
 use model::PRIVILEGES;
@@ -21,8 +22,6 @@ use model::ROLES;
 use model::ROW_COUNT_AT;
 use model::Row;
 use model::USERS;
-
-const LIST_SIZE: usize = 256;
 
 // Accepted, with 1 or 0.
 fn told(so: bool) -> Answer
@@ -56,7 +55,7 @@ pub fn invoke(
 
 // The row is the user's, and its role is asked.
 fn is_asked(row: Row, user: u16, asked: &[bool]) -> bool
-    requires { ⌜ (length (now asked) ≡ 384) × (row .role < roles) ⌝ }
+    requires { ⌜ (length (now asked) ≡ askedMarks) × (row .role < roles) ⌝ }
     ensures { λ r. ⌜ r ≡ (eqb (row .user) user && getD (now (asked .entry)) (row .role) false) ⌝ }
 {
     if row.user == user {
@@ -76,7 +75,7 @@ fn roles_reach(
     k: usize,
     user: u16,
 ) -> bool
-    requires { ⌜ Ready (withoutRights (now rules) (now kinds)) (now having) (now state) user × (k ≤ rowCount (now state)) × (length (now asked) ≡ 384) × AskedThrough (now kinds) (now asked) ⌝ }
+    requires { ⌜ Ready (withoutRights (now rules) (now kinds)) (now having) (now state) user × (k ≤ rowCount (now state)) × (length (now asked) ≡ askedMarks) × AskedThrough (now kinds) (now asked) ⌝ }
     ensures { λ r. ⌜ Tells (withoutRights (now (rules .entry)) (now (kinds .entry))) (now (having .entry)) (now (state .entry)) user (now (asked .entry)) k false r ⌝ }
 {
     let mut i = k;
@@ -107,7 +106,7 @@ fn certificates_reach(
     k: usize,
     user: u16,
 ) -> bool
-    requires { ⌜ Ready (withoutRights (now rules) (now kinds)) (now having) (now state) user × (k < rowCount (now state)) × (length (now asked) ≡ 384) × AskedThrough (now kinds) (now asked) ⌝ }
+    requires { ⌜ Ready (withoutRights (now rules) (now kinds)) (now having) (now state) user × (k < rowCount (now state)) × (length (now asked) ≡ askedMarks) × AskedThrough (now kinds) (now asked) ⌝ }
     ensures { λ r. ⌜ Tells (withoutRights (now (rules .entry)) (now (kinds .entry))) (now (having .entry)) (now (state .entry)) user (now (asked .entry)) k (restReaches (withoutRights (now (rules .entry)) (now (kinds .entry))) (now (having .entry)) (now (state .entry)) user k) r ⌝ }
 {
     let own = rests::membership_of(rules, table::row_at(state, k));

@@ -10,6 +10,10 @@ use Rattle.model.specs.Layout.{policyOf}
 use Rattle.model.specs.Conditions.{meant, rolesAsked}
 use Rattle.table.specs.Entries.{withoutRights}
 
+-- a mark for each role and each kind
+abbrev pub askedMarks : ℕ
+askedMarks = 384
+
 module _ (kinds : List ℕ) where
   -- the roles that the condition asks for are marked
   abbrev pub HasAsked : List Bool → ℕ → Type 0
@@ -34,7 +38,7 @@ module _ (kinds : List ℕ) where
 -- the condition has asked, or it is a kind and nothing was added
 pub record Known (before after : List Bool) (c : ℕ) (r : Bool) : Type 0 where
   pub known : r ≡ true → (kinds : List ℕ) → AskedThrough kinds before → ConditionAsked kinds before after c
-  pub unknown : r ≡ false → (after ≡ before) × (roles ≤ c) × (c < 384)
+  pub unknown : r ≡ false → (after ≡ before) × (roles ≤ c) × (c < askedMarks)
 
 -- the conditions have asked, or some of them have
 pub record RowAsked (conditions : List ℕ) (before after : List Bool) (r : Bool) : Type 0 where

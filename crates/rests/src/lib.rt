@@ -9,9 +9,11 @@ ghost use Rattle.model.specs.Layout.{policyOf};
 ghost use Rattle.model.specs.Conditions.{meant, membership, ruleNumbered, rolesAsked, restsOn};
 ghost use Rattle.table.specs.Entries.{withoutRights};
 ghost use Rattle.rests.specs.Newest.{newest};
-ghost use Rattle.rests.specs.Asked.{AskedThrough, Known, ConditionAsked, RowAsked};
+ghost use Rattle.rests.specs.Asked.{askedMarks, AskedThrough, Known, ConditionAsked, RowAsked};
 use model::FIRST_FACT;
 use model::FIRST_KIND;
+use model::MOST_CONDITIONS;
+use model::MOST_PREREQUISITES;
 use model::ROLES;
 use model::Row;
 
@@ -35,7 +37,7 @@ pub fn roles_asked(kinds: &[u16], condition: u16) -> RolesAsked
     if condition < FIRST_FACT {
         let row = table::kind_numbered(kinds, table::wide(condition - FIRST_KIND));
         let roles = row.prerequisites;
-        let count = table::least(table::wide(row.s), 4);
+        let count = table::least(table::wide(row.s), MOST_PREREQUISITES);
         return RolesAsked { count, roles };
     }
     RolesAsked {
@@ -56,7 +58,7 @@ pub fn membership_of(rules: &[u16], row: Row) -> Membership
 {
     let rule = table::rule_numbered(rules, table::wide(row.rule));
     let conditions = rule.conditions;
-    let count = table::least(table::wide(rule.m), 8);
+    let count = table::least(table::wide(rule.m), MOST_CONDITIONS);
     Membership { count, conditions }
 }
 
@@ -97,7 +99,7 @@ pub fn newest_row(state: &[u16], k: usize, user: u16, role: u16) -> usize
 // The condition is asked, if that takes no more than its own mark: a role is marked, a kind that is marked has asked already, a fact asks
 // for nothing. Says whether it is.
 fn ask_known(c: u16, asked: &mut [bool]) -> bool
-    requires { ⌜ length (now asked) ≡ 384 ⌝ }
+    requires { ⌜ length (now asked) ≡ askedMarks ⌝ }
     ensures { λ r. ⌜ Known (now (asked .entry)) (now (asked .exit)) c r ⌝ }
 {
     if c < FIRST_KIND {
@@ -112,7 +114,7 @@ fn ask_known(c: u16, asked: &mut [bool]) -> bool
 
 // A kind asks for its prerequisite roles, and is marked. A role out of range never stands.
 fn ask_kind(kinds: &[u16], c: u16, asked: &mut [bool])
-    requires { ⌜ (length (now asked) ≡ 384) × (256 ≤ c) × (c < 384) × AskedThrough (now kinds) (now asked) ⌝ }
+    requires { ⌜ (length (now asked) ≡ askedMarks) × (roles ≤ c) × (c < askedMarks) × AskedThrough (now kinds) (now asked) ⌝ }
     ensures { λ r. ⌜ ConditionAsked (now (kinds .entry)) (now (asked .entry)) (now (asked .exit)) c ⌝ }
 {
     let named = roles_asked(kinds, c);
@@ -131,7 +133,7 @@ fn ask_kind(kinds: &[u16], c: u16, asked: &mut [bool])
 
 // What the condition asks for is marked.
 pub fn ask_condition(kinds: &[u16], c: u16, asked: &mut [bool])
-    requires { ⌜ (length (now asked) ≡ 384) × AskedThrough (now kinds) (now asked) ⌝ }
+    requires { ⌜ (length (now asked) ≡ askedMarks) × AskedThrough (now kinds) (now asked) ⌝ }
     ensures { λ r. ⌜ ConditionAsked (now (kinds .entry)) (now (asked .entry)) (now (asked .exit)) c ⌝ }
 {
     if ask_known(c, asked) {
@@ -142,7 +144,7 @@ pub fn ask_condition(kinds: &[u16], c: u16, asked: &mut [bool])
 
 // What the row rests on is asked, up to the first kind that has not asked yet. Says whether there is none.
 pub fn ask_row(rules: &[u16], row: Row, asked: &mut [bool]) -> bool
-    requires { ⌜ length (now asked) ≡ 384 ⌝ }
+    requires { ⌜ length (now asked) ≡ askedMarks ⌝ }
     ensures { λ r. ⌜ RowAsked (membership (ruleNumbered (policyOf (withoutRights (now (rules .entry)) [])) (row .rule))) (now (asked .entry)) (now (asked .exit)) r ⌝ }
 {
     let own = membership_of(rules, row);

@@ -14,7 +14,7 @@ use Rattle.model.specs.declared.Row.{Row}
 use Rattle.model.proofs.Tests.{is-true, of-true, and-left, and-right, each, all-of, earlier-of}
 use Rattle.table.specs.Entries.{Sized, kindsOnly}
 use Rattle.table.proofs.Entries.{length-entries, sized}
-use Rattle.index.specs.Owned.{InRange, CertificatesInRange}
+use Rattle.marks.specs.Owned.{InRange, CertificatesInRange}
 use Rattle.sound.specs.Fitting.{fitClauses, rowFits}
 use Rattle.sound.proofs.Judged.{stays, rows-parts}
 

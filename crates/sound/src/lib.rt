@@ -5,11 +5,11 @@ ghost use mathlib.Core.Bool.{true, false};
 ghost use mathlib.Core.List.{[]};
 ghost use lib.ListN.{length, take};
 ghost use Rattle.model.specs.Lists.{all, any, allOverEarlier, isBit};
-ghost use Rattle.model.specs.Limits.{stateSize, mostCertificates, mostKinds};
+ghost use Rattle.model.specs.Limits.{stateSize, mostCertificates, mostKinds, kindWidth};
 ghost use Rattle.model.specs.Layout.{decode, policyOf, factNumbers};
 ghost use Rattle.model.specs.Sound.{wellFormed, sameCertificate, certificateSound, rowSound, sound};
 ghost use Rattle.table.specs.Entries.{certificateAt, firstCertificates, withoutRights, worldAt, Sized, kindsOnly, rulesOnly};
-ghost use Rattle.index.specs.Owned.{CertificatesInRange};
+ghost use Rattle.marks.specs.Owned.{CertificatesInRange};
 ghost use Rattle.sound.specs.Seen.{beginning, bits, Seen};
 ghost use Rattle.sound.specs.Fitting.{rowFits, saidToStay};
 use model::CERTIFICATE_COUNT_AT;
@@ -229,14 +229,14 @@ fn rows_sound(rules: &[u16], kinds: &[u16], state: &[u16]) -> bool
     if !rows_fit(rules, state) {
         return false;
     }
-    let mut verdicts = [0u8; 256];
+    let mut verdicts = [0u8; MOST_ROWS];
     support::judge_rows(rules, kinds, state, &mut verdicts);
     each_stays(&verdicts, table::wide(state[ROW_COUNT_AT]))
 }
 
 // The state is well formed, and its certificates and active rows are sound, each over those before it.
 pub fn state_sound(rules: &[u16], kinds: &[u16], state: &[u16]) -> bool
-    requires { ⌜ length (now kinds) / 7 ≤ mostKinds ⌝ }
+    requires { ⌜ length (now kinds) / kindWidth ≤ mostKinds ⌝ }
     ensures { λ r. ⌜ r ≡ sound (policyOf (withoutRights (now (rules .entry)) (now (kinds .entry)))) (now (state .entry)) ⌝ }
 {
     if !well_formed(state) {

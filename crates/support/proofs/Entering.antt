@@ -1,4 +1,4 @@
--- A user's own marks: the kinds, along the chain of the user's certificates; and one row more, judged by them.
+-- A user's own marks: the kinds, along the queue of the user's certificates; and one row more, judged by them.
 use Prim.Native.Nat.{ℕ, zero, suc, _+_, _-_, _≤_, _<_}
 use mathlib.Core.Path.{_≡_, refl, sym, ap, _∙_, subst, subst⁻¹}
 use mathlib.Core.Bool.{Bool, true, false, cond}
@@ -17,11 +17,11 @@ use Rattle.model.specs.declared.Certificate.{Certificate}
 use Rattle.model.proofs.Sweep.{left-last}
 use Rattle.table.specs.Entries.{rowAt, firstRows, certificateAt, firstCertificates}
 use Rattle.table.proofs.Entries.{rows-more, certificate-places}
-use Rattle.index.specs.Marked.{ownMarks, has, supportedBy}
-use Rattle.index.specs.Owned.{InRange, Own}
-use Rattle.index.proofs.Owning.{row-in-range, own-none, supported-own, row-own, row-again, kinds-on, kinds-past}
-use Rattle.chains.specs.Chained.{buckets, bucket, Link, Begins, GoesOn}
-use Rattle.chains.proofs.Linking.{passed-user}
+use Rattle.marks.specs.Marked.{ownMarks, has, supportedBy}
+use Rattle.marks.specs.Owned.{InRange, Own}
+use Rattle.marks.proofs.Owning.{row-in-range, own-none, supported-own, row-own, row-again, kinds-on, kinds-past}
+use Rattle.queues.specs.Queued.{queues, queue, Link, Begins, GoesOn}
+use Rattle.queues.proofs.Linking.{passed-user}
 use Rattle.support.specs.Verdicts.{kept, stays, falls, twice, verdictAt}
 
 -- ── kinds ──
@@ -31,7 +31,7 @@ pub record Entering (s : List ℕ) (u : ℕ) (own : List Bool) (k : ℕ) : Type 
   pub upto : ℕ
   pub inside : upto ≤ certificateCount s
   pub marked : Own u own [] (firstCertificates s upto)
-  pub link : Link s certificatesAt (certificateCount s) (bucket u) upto k
+  pub link : Link s certificatesAt (certificateCount s) (queue u) upto k
 
 -- certificates of others need no mark
 kinds-skip : (s : List ℕ) (own : List Bool) (u a d : ℕ) → ((h : ℕ) → a ≤ h → h < a + d → certificateAt s h .appointee ≢ u)
@@ -43,35 +43,35 @@ kinds-skip s own u a (suc d) others x =
     (kinds-past s own u (a + d) [] (certificateAt s (a + d)) refl (kinds-skip s own u a d (λ h after before. others h after (omega arith)) x) (others (a + d) (omega arith) (omega arith)))
 
 module _ (s : List ℕ) (few : certificateCount s ≤ mostCertificates) (u : ℕ) where
-  pub entering-none : (own : List Bool) (heads : List ℕ) (b k : ℕ) → own ≡ replicate ownMarks false → Begins s certificatesAt (certificateCount s) 0 heads → b ≡ bucket u → b < buckets → k ≡ getD heads b 0 → Entering s u own k
+  pub entering-none : (own : List Bool) (heads : List ℕ) (b k : ℕ) → own ≡ replicate ownMarks false → Begins s certificatesAt (certificateCount s) 0 heads → b ≡ queue u → b < queues → k ≡ getD heads b 0 → Entering s u own k
   unfolding firstCertificates
   entering-none own heads b k e x same small d =
       record {
         upto = 0;
         inside = omega arith;
         marked = subst⁻¹ (λ (l : List Bool). Own u l [] []) e (own-none u);
-        link = subst⁻¹ (Link s certificatesAt (certificateCount s) (bucket u) 0) d (subst (λ (c : ℕ). Link s certificatesAt (certificateCount s) c 0 (getD heads b 0)) same (x .begins b small));
+        link = subst⁻¹ (Link s certificatesAt (certificateCount s) (queue u) 0) d (subst (λ (c : ℕ). Link s certificatesAt (certificateCount s) c 0 (getD heads b 0)) same (x .begins b small));
       }
 
   module _ (own : List Bool) (k : ℕ) (x : Entering s u own k) where
-    -- those that the chain passes over are others'
+    -- those that the queue passes over are others'
     skipped : (m : ℕ) → x .upto ≤ m → m ≤ k → m ≤ certificateCount s → Own u own [] (firstCertificates s m)
     skipped m after before inside =
         let e : x .upto + (m - x .upto) ≡ m = omega arith in
         subst (λ (n : ℕ). Own u own [] (firstCertificates s n)) e
         (kinds-skip s own u (x .upto) (m - x .upto)
-        (λ h a b q. passed-user s certificatesAt (certificateCount s) (bucket u) (x .upto) k (x .link) u refl h a (omega arith) (omega arith) (sym (ap (λ (c : Certificate). c .appointee) (certificate-places s h (omega arith))) ∙ q))
+        (λ h a b q. passed-user s certificatesAt (certificateCount s) (queue u) (x .upto) k (x .link) u refl h a (omega arith) (omega arith) (sym (ap (λ (c : Certificate). c .appointee) (certificate-places s h (omega arith))) ∙ q))
         (x .marked))
 
     pub entering-all : certificateCount s ≤ k → Own u own [] (decode s .certificates)
     unfolding decode firstCertificates
     entering-all h = skipped (certificateCount s) (x .inside) h (omega arith)
 
-    -- certificate k, and where the chain goes on from it
+    -- certificate k, and where the queue goes on from it
     module _ (there : k < certificateCount s) (next : List ℕ) (y : GoesOn s certificatesAt (certificateCount s) 0 next) (k′ : ℕ) (d : k′ ≡ getD next k 0) where
-      behind : Link s certificatesAt (certificateCount s) (bucket u) (k + 1) k′
+      behind : Link s certificatesAt (certificateCount s) (queue u) (k + 1) k′
       behind =
-          subst⁻¹ (Link s certificatesAt (certificateCount s) (bucket u) (k + 1)) d
+          subst⁻¹ (Link s certificatesAt (certificateCount s) (queue u) (k + 1)) d
           (subst (λ (c : ℕ). Link s certificatesAt (certificateCount s) c (k + 1) (getD next k 0)) (x .link .there there) (y .goes-on k (omega arith) there))
 
       pub further : k < k′

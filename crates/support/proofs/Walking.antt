@@ -1,4 +1,4 @@
--- Along the chain of one user's rows: a row of another user changes nothing of what the marks say. And user after user, until all rows are
+-- Along the queue of one user's rows: a row of another user changes nothing of what the marks say. And user after user, until all rows are
 -- judged.
 use Prim.Native.Nat.{ℕ, zero, suc, _+_, _-_, _≤_, _<_}
 use mathlib.Core.Path.{_≡_, refl, sym, ap, _∙_, subst, subst⁻¹}
@@ -18,10 +18,10 @@ use Rattle.model.specs.declared.Certificate.{Certificate}
 use Rattle.model.proofs.Tests.{lt-or-ge, eq-or-ne, repeated}
 use Rattle.table.specs.Entries.{rowAt, firstRows}
 use Rattle.table.proofs.Entries.{row-places}
-use Rattle.chains.specs.Chained.{userAt, bucket, Link, GoesOn}
-use Rattle.chains.proofs.Linking.{passed-user}
-use Rattle.index.specs.Owned.{InRange, Own}
-use Rattle.index.proofs.Owning.{row-other}
+use Rattle.queues.specs.Queued.{userAt, queue, Link, GoesOn}
+use Rattle.queues.proofs.Linking.{passed-user}
+use Rattle.marks.specs.Owned.{InRange, Own}
+use Rattle.marks.proofs.Owning.{row-other}
 use Rattle.support.specs.Verdicts.{kept, stays, falls, twice, verdictAt, Correct, UserJudged, Judged}
 use Rattle.support.proofs.Entering.{kept-more}
 
@@ -77,7 +77,7 @@ module _ (w : World) (s verdicts : List ℕ) (k v : ℕ) (correct : Correct w s 
       go (inl e) = said-here h e
       go (inr e) = omega (arith, getD-set-other verdicts k h v 0 e)
 
--- ── along the chain of one user's rows ──
+-- ── along the queue of one user's rows ──
 
 user-at : (s : List ℕ) (h : ℕ) → h < mostRows → userAt s rowsAt h ≡ rowAt s h .user
 user-at s h l = sym (ap (λ (r : Row). r .user) (row-places s h l))
@@ -85,7 +85,7 @@ user-at s h l = sym (ap (λ (r : Row). r .user) (row-places s h l))
 -- the rows before `upto` are judged as far as they are the user's, and k is the next that may be
 pub record Walked (w : World) (s : List ℕ) (u i : ℕ) (before : List ℕ) (own : List Bool) (verdicts : List ℕ) (k : ℕ) : Type 0 where
   pub upto : ℕ
-  pub link : Link s rowsAt (rowCount s) (bucket u) upto k
+  pub link : Link s rowsAt (rowCount s) (queue u) upto k
   pub marks : Own u own (kept w s upto) (decode s .certificates)
   pub correct : Correct w s verdicts
   pub still : (h : ℕ) → 0 < getD before h 0 → 0 < getD verdicts h 0
@@ -100,7 +100,7 @@ walk-starts {w} {s} {i} {own} range l e marks correct =
       link = record {
         ahead = omega arith;
         within = omega (arith, range .sized .rows);
-        there = λ m. ap bucket (user-at s i (omega (arith, range .sized .rows)) ∙ ap (λ (d : Row). d .user) (sym e));
+        there = λ m. ap queue (user-at s i (omega (arith, range .sized .rows)) ∙ ap (λ (d : Row). d .user) (sym e));
         first = λ h m n b. m;
       };
       marks = subst⁻¹ (λ (d : Row). Own (d .user) own (kept w s i) (decode s .certificates)) e marks;
@@ -112,7 +112,7 @@ walk-starts {w} {s} {i} {own} range l e marks correct =
 
 module _ {w : World} {s : List ℕ} {u i : ℕ} {before : List ℕ} {own : List Bool} {verdicts : List ℕ} {k : ℕ} (range : InRange s) (x : Walked w s u i before own verdicts k) where
   passed : (h : ℕ) → x .upto ≤ h → h < k → h < rowCount s → rowAt s h .user ≢ u
-  passed h l m n e = passed-user s rowsAt (rowCount s) (bucket u) (x .upto) k (x .link) u refl h l m n (user-at s h (omega (arith, range .sized .rows)) ∙ e)
+  passed h l m n e = passed-user s rowsAt (rowCount s) (queue u) (x .upto) k (x .link) u refl h l m n (user-at s h (omega (arith, range .sized .rows)) ∙ e)
 
   judged : (h : ℕ) → i ≤ h → h < k → h < rowCount s → rowAt s h .user ≡ u → 0 < getD verdicts h 0
   judged h l m n e = go (lt-or-ge h (x .upto))
@@ -138,15 +138,15 @@ module _ {w : World} {s : List ℕ} {u i : ℕ} {before : List ℕ} {own : List 
       user-same : rowAt s k .user ≡ r .user
       user-same = ap (λ (d : Row). d .user) (sym e)
 
-      -- the marks have kept up with the chain
+      -- the marks have kept up with the queue
       pub marks-reach : r .user ≡ u → Own (rowAt s k .user) own (kept w s k) (decode s .certificates)
       marks-reach mine = subst⁻¹ (λ (v : ℕ). Own v own (kept w s k) (decode s .certificates)) (user-same ∙ mine) reached
 
       module _ {next : List ℕ} (goes : GoesOn s rowsAt (rowCount s) 0 next) where
-        link-on : Link s rowsAt (rowCount s) (bucket u) (k + 1) (getD next k 0)
+        link-on : Link s rowsAt (rowCount s) (queue u) (k + 1) (getD next k 0)
         link-on = subst (λ (b : ℕ). Link s rowsAt (rowCount s) b (k + 1) (getD next k 0)) (x .link .there within) (goes .goes-on k (omega arith) within)
 
-        -- past a row of another user in the same chain
+        -- past a row of another user in the same queue
         pub walk-past : r .user ≢ u → Walked w s u i before own verdicts (getD next k 0)
         walk-past other =
             record {

@@ -1,5 +1,5 @@
 // Which rows keep their support, in one pass from the first row to the last. A row rests on earlier rows of its own user only, so users are
-// judged one after the other, each along the chain of the user's rows: one user's marks are all that is kept at a time.
+// judged one after the other, each along the queue of the user's rows: one user's marks are all that is kept at a time.
 ghost use mathlib.Core.Path.{_≡_};
 ghost use mathlib.Core.Logic.{_≢_};
 ghost use mathlib.Core.Bool.{false};
@@ -9,9 +9,9 @@ ghost use lib.ListN.{replicate};
 ghost use Rattle.model.specs.Limits.{mostRows};
 ghost use Rattle.model.specs.Layout.{decode, rowCount, certificateCount, rowsAt, certificatesAt};
 ghost use Rattle.table.specs.Entries.{rowAt, worldAt};
-ghost use Rattle.index.specs.Marked.{ownMarks};
-ghost use Rattle.index.specs.Owned.{InRange, Own};
-ghost use Rattle.chains.specs.Chained.{Begins, GoesOn};
+ghost use Rattle.marks.specs.Marked.{ownMarks};
+ghost use Rattle.marks.specs.Owned.{InRange, Own};
+ghost use Rattle.queues.specs.Queued.{Begins, GoesOn};
 ghost use Rattle.support.specs.Verdicts.{kept, verdictAt, Correct, UserJudged, Judged};
 use model::CERTIFICATE_COUNT_AT;
 use model::CERTIFICATES_AT;
@@ -28,18 +28,18 @@ pub const FALLS: u8 = 2;
 // It stays, and its user is in its role by an earlier row.
 pub const TWICE: u8 = 3;
 
-// The kinds that stand for the user are marked, along the chain of the user's certificates.
+// The kinds that stand for the user are marked, along the queue of the user's certificates.
 fn enter_kinds(state: &[u16], heads: &[u16], next: &[u16], user: u16, own: &mut [bool])
     requires { ⌜ InRange (now state) × Begins (now state) certificatesAt (certificateCount (now state)) 0 (now heads) × GoesOn (now state) certificatesAt (certificateCount (now state)) 0 (now next) × (now own ≡ replicate ownMarks false) ⌝ }
     ensures { λ r. ⌜ Own user (now (own .exit)) [] (decode (now (state .entry)) .certificates) ⌝ }
 {
     let n = table::wide(state[CERTIFICATE_COUNT_AT]);
-    let mut k = table::wide(heads[chains::bucket_of(user)]);
+    let mut k = table::wide(heads[queues::queue_of(user)]);
     while k < n {
         let certificate = table::certificate_at(state, k);
         k = table::wide(next[k]);
         if certificate.appointee == user {
-            own[index::KINDS_AT + table::wide(certificate.kind)] = true;
+            own[marks::KINDS_AT + table::wide(certificate.kind)] = true;
         }
     }
 }
@@ -51,7 +51,7 @@ fn judge_row(rules: &[u16], kinds: &[u16], state: &[u16], own: &mut [bool], k: u
     ensures entered { λ r. ⌜ Own (rowAt (now (state .entry)) k .user) (now (own .exit)) (kept (worldAt (now (rules .entry)) (now (kinds .entry)) (now (state .entry))) (now (state .entry)) (k + 1)) (decode (now (state .entry)) .certificates) ⌝ }
 {
     let row = table::row_at(state, k);
-    if !index::row_supported(rules, kinds, state, own, row) {
+    if !marks::row_supported(rules, kinds, state, own, row) {
         return FALLS;
     }
     let role = table::wide(row.role);
@@ -89,7 +89,7 @@ fn judge_user(
 }
 
 // The same where row i is the first of its user's: no role is marked yet, and the kinds that stand for the user are marked here. `next`
-// chains the rows, `heads` and `after` chain the certificates.
+// queues the rows, `heads` and `after` queue the certificates.
 fn judge_from_first(
     rules: &[u16],
     kinds: &[u16],
@@ -104,7 +104,7 @@ fn judge_from_first(
     ensures { λ r. ⌜ UserJudged (worldAt (now (rules .entry)) (now (kinds .entry)) (now (state .entry))) (now (state .entry)) i (now (verdicts .entry)) (now (verdicts .exit)) ⌝ }
 {
     let row = table::row_at(state, i);
-    let mut own = [false; index::OWN_MARKS];
+    let mut own = [false; marks::OWN_MARKS];
     enter_kinds(state, heads, after, row.user, &mut own);
     judge_user(rules, kinds, state, next, &mut own, i, verdicts);
 }
@@ -137,14 +137,14 @@ pub fn judge_rows(rules: &[u16], kinds: &[u16], state: &[u16], verdicts: &mut [u
     requires { ⌜ InRange (now state) × (now verdicts ≡ replicate mostRows 0) ⌝ }
     ensures { λ r. ⌜ Judged (worldAt (now (rules .entry)) (now (kinds .entry)) (now (state .entry))) (now (state .entry)) (now (verdicts .exit)) ⌝ }
 {
-    // Where a chain of rows begins is not asked: a user is judged from the row that is met.
-    let mut first = [chains::NO_ENTRY; chains::BUCKETS];
-    let mut next = [chains::NO_ENTRY; MOST_ROWS];
+    // Where a queue of rows begins is not asked: a user is judged from the row that is met.
+    let mut first = [queues::NO_ENTRY; queues::QUEUES];
+    let mut next = [queues::NO_ENTRY; MOST_ROWS];
     let n = table::wide(state[ROW_COUNT_AT]);
-    chains::chain(state, ROWS_AT, n, &mut first, &mut next);
-    let mut heads = [chains::NO_ENTRY; chains::BUCKETS];
-    let mut after = [chains::NO_ENTRY; MOST_CERTIFICATES];
+    queues::queue_up(state, ROWS_AT, n, &mut first, &mut next);
+    let mut heads = [queues::NO_ENTRY; queues::QUEUES];
+    let mut after = [queues::NO_ENTRY; MOST_CERTIFICATES];
     let m = table::wide(state[CERTIFICATE_COUNT_AT]);
-    chains::chain(state, CERTIFICATES_AT, m, &mut heads, &mut after);
+    queues::queue_up(state, CERTIFICATES_AT, m, &mut heads, &mut after);
     judge_each(rules, kinds, state, &next, &heads, &after, verdicts);
 }

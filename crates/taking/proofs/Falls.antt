@@ -32,7 +32,7 @@ use Rattle.model.proofs.Kept.{sound-certificates, sound-rows, fact-fits, certif
 use Rattle.table.specs.Entries.{worldAt, withoutRights}
 use Rattle.table.proofs.Entries.{sized}
 use Rattle.table.proofs.Worlds.{supported-same}
-use Rattle.index.specs.Owned.{InRange}
+use Rattle.marks.specs.Owned.{InRange}
 use Rattle.fall.specs.Pass.{RowsLeft}
 use Rattle.inner.specs.Promise.{lent, Answers}
 use Rattle.inner.proofs.Codes.{own-decide, own-refuses, own-accepts, out-of-range, in-range, found, certificate-length, some-kind}

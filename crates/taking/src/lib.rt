@@ -14,7 +14,7 @@ ghost use Rattle.model.specs.Calls.{revoke as revokeCall, withdraw as withdrawC
 ghost use Rattle.model.specs.Outcome.{given};
 ghost use Rattle.model.specs.Words.{Sound};
 ghost use Rattle.table.specs.Entries.{withoutRights, Sized};
-ghost use Rattle.index.specs.Owned.{InRange};
+ghost use Rattle.marks.specs.Owned.{InRange};
 ghost use Rattle.inner.specs.Promise.{lent, Answers};
 ghost use Rattle.taking.specs.Fallen.{allSupported, Fallen};
 ghost use Rattle.taking.specs.Taken.{takenOn, Comes};

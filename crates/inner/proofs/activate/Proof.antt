@@ -2,7 +2,7 @@ use mathlib.Core.Path.{refl, sym, _∙_}
 use mathlib.Core.List.{[]}
 use native.Mathlib.Omega.{arith}
 use Rattle.model.specs.Layout.{decode}
-use Rattle.index.proofs.Owning.{active-own}
+use Rattle.marks.proofs.Owning.{active-own}
 use Rattle.inner.proofs.Codes.{sound-form, sound-sized, sound-range, sound-rules}
 use Rattle.inner.proofs.Activation.{activate-no-user, activate-no-role, activate-active, lowest-own, activate-no-rule, activate-full, activate-done}
 use borrow.Author.Needs.{needs}

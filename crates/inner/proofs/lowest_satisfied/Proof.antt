@@ -9,11 +9,11 @@ use lib.ListN.{length}
 use borrow.Author.Tests.{eq-eqb, ne-eqb}
 use Rattle.model.specs.Lists.{any}
 use Rattle.model.specs.Layout.{policyOf, ruleFrom}
-use Rattle.index.specs.Marked.{has, satisfiedBy}
+use Rattle.marks.specs.Marked.{has, satisfiedBy}
 use Rattle.model.specs.declared.Rule.{Rule}
 use Rattle.table.specs.Entries.{entries, ruleAt, worldAt}
 use Rattle.table.proofs.Entries.{any-next}
-use Rattle.index.proofs.Holding.{rule-by, another-by}
+use Rattle.marks.proofs.Holding.{rule-by, another-by}
 use Rattle.inner.proofs.First.{first-hit, first-missing}
 use borrow.Author.Needs.{needs}
 use Rattle.inner.proofs.lowest_satisfied.Statement.{statement}

@@ -7,8 +7,8 @@ use borrow.Author.Needs.{needs}
 use lib.ListN.{length, length-replicate}
 use Rattle.model.specs.Layout.{certificateCount}
 use Rattle.model.specs.declared.Certificate.{Certificate}
-use Rattle.index.specs.Marked.{ownMarks}
-use Rattle.index.proofs.Owning.{certificate-in-range}
+use Rattle.marks.specs.Marked.{ownMarks}
+use Rattle.marks.proofs.Owning.{certificate-in-range}
 use Rattle.support.proofs.Entering.{Entering, entering-none, entering-all, further, entering-own, entering-other}
 use Rattle.support.proofs.enter_kinds.Statement.{statement}
 use Rattle.support.proofs.enter_kinds.Tie as tie
@@ -25,20 +25,20 @@ shared-slice-read-wide c = omega (arith, c .before .before .before .before .befo
 wide-requires : tie.Need-wide-requires Inv-loop μ-loop
 wide-requires c κs = search needs
 
-bucket-of-requires : tie.Need-bucket-of-requires Inv-loop μ-loop
-bucket-of-requires c κs = search needs
+queue-of-requires : tie.Need-queue-of-requires Inv-loop μ-loop
+queue-of-requires c κs = search needs
 
 mul-wide : tie.Need-mul-wide Inv-loop μ-loop
 mul-wide c = search needs
 
 shared-slice-read-wide-2 : tie.Need-shared-slice-read-wide-2 Inv-loop μ-loop
-shared-slice-read-wide-2 c = omega (arith, c .before .before .before .before .before .before .before .before .pre .1 .size, c .before .bucket-of .ensures .0)
+shared-slice-read-wide-2 c = omega (arith, c .before .before .before .before .before .before .before .before .pre .1 .size, c .before .queue-of .ensures .0)
 
 wide-requires-2 : tie.Need-wide-requires-2 Inv-loop μ-loop
 wide-requires-2 c κs = search needs
 
 loop-holds : tie.Need-loop-holds Inv-loop μ-loop
-loop-holds c = entering-none (c .before .before .before .before .before .before .before .before .before .args .state .now) (c .before .before .before .before .before .before .before .before .before .pre .0 .sized .certificates) (c .before .before .before .before .before .before .before .before .before .args .user) (c .before .before .before .before .before .before .before .before .before .args .own .now) (c .before .before .before .before .before .before .before .before .before .args .heads .now) (c .before .before .bucket-of .result) (c .wide2 .result) (c .before .before .before .before .before .before .before .before .before .pre .3) (c .before .before .before .before .before .before .before .before .before .pre .1) (c .before .before .bucket-of .ensures .1) (c .before .before .bucket-of .ensures .0) (c .wide2 .ensures)
+loop-holds c = entering-none (c .before .before .before .before .before .before .before .before .before .args .state .now) (c .before .before .before .before .before .before .before .before .before .pre .0 .sized .certificates) (c .before .before .before .before .before .before .before .before .before .args .user) (c .before .before .before .before .before .before .before .before .before .args .own .now) (c .before .before .before .before .before .before .before .before .before .args .heads .now) (c .before .before .queue-of .result) (c .wide2 .result) (c .before .before .before .before .before .before .before .before .before .pre .3) (c .before .before .before .before .before .before .before .before .before .pre .1) (c .before .before .queue-of .ensures .1) (c .before .before .queue-of .ensures .0) (c .wide2 .ensures)
 
 certificate-at-requires : tie.Need-certificate-at-requires Inv-loop μ-loop
 certificate-at-requires c κs = (c .before .before .before .before .before .before .before .before .before .before .before .pre .0 .sized .size, omega (arith, c .before .before .before .before .before .wide .ensures, c .before .before .before .before .before .before .before .before .before .before .before .pre .0 .sized .certificates))
@@ -87,7 +87,7 @@ enter-kinds-spec =
     μ-loop
     shared-slice-read-wide
     wide-requires
-    bucket-of-requires
+    queue-of-requires
     mul-wide
     shared-slice-read-wide-2
     wide-requires-2

@@ -13,14 +13,14 @@ shared-slice-read-wide c = omega (arith, c .before .before .before .before .befo
 wide-requires : tie.Need-wide-requires
 wide-requires c κs = search needs
 
-slice-aggregate-chain : tie.Need-slice-aggregate-chain
-slice-aggregate-chain c = search needs
+slice-aggregate-queue-up : tie.Need-slice-aggregate-queue-up
+slice-aggregate-queue-up c = search needs
 
-slice-aggregate-chain-2 : tie.Need-slice-aggregate-chain-2
-slice-aggregate-chain-2 c = search needs
+slice-aggregate-queue-up-2 : tie.Need-slice-aggregate-queue-up-2
+slice-aggregate-queue-up-2 c = search needs
 
-chain-requires : tie.Need-chain-requires
-chain-requires c κs = (omega (arith, c .before .before .wide .ensures, c .before .before .before .before .before .before .before .before .pre .0 .sized .rows), omega (arith, c .before .before .wide .ensures, c .before .before .before .before .before .before .before .before .pre .0 .sized .rows, c .before .before .before .before .before .before .before .before .pre .0 .sized .size), refl, refl)
+queue-up-requires : tie.Need-queue-up-requires
+queue-up-requires c κs = (omega (arith, c .before .before .wide .ensures, c .before .before .before .before .before .before .before .before .pre .0 .sized .rows), omega (arith, c .before .before .wide .ensures, c .before .before .before .before .before .before .before .before .pre .0 .sized .rows, c .before .before .before .before .before .before .before .before .pre .0 .sized .size), refl, refl)
 
 shared-slice-read-wide-2 : tie.Need-shared-slice-read-wide-2
 shared-slice-read-wide-2 c = omega (arith, c .before .before .before .before .before .before .before .before .before .before .before .before .pre .0 .sized .size)
@@ -28,14 +28,14 @@ shared-slice-read-wide-2 c = omega (arith, c .before .before .before .before .be
 wide-requires-2 : tie.Need-wide-requires-2
 wide-requires-2 c κs = search needs
 
-slice-aggregate-chain-3 : tie.Need-slice-aggregate-chain-3
-slice-aggregate-chain-3 c = search needs
+slice-aggregate-queue-up-3 : tie.Need-slice-aggregate-queue-up-3
+slice-aggregate-queue-up-3 c = search needs
 
-slice-aggregate-chain-4 : tie.Need-slice-aggregate-chain-4
-slice-aggregate-chain-4 c = search needs
+slice-aggregate-queue-up-4 : tie.Need-slice-aggregate-queue-up-4
+slice-aggregate-queue-up-4 c = search needs
 
-chain-requires-2 : tie.Need-chain-requires-2
-chain-requires-2 c κs = (omega (arith, c .before .before .wide2 .ensures, c .before .before .before .before .before .before .before .before .before .before .before .before .before .before .before .pre .0 .sized .certificates), omega (arith, c .before .before .wide2 .ensures, c .before .before .before .before .before .before .before .before .before .before .before .before .before .before .before .pre .0 .sized .certificates, c .before .before .before .before .before .before .before .before .before .before .before .before .before .before .before .pre .0 .sized .size), refl, refl)
+queue-up-requires-2 : tie.Need-queue-up-requires-2
+queue-up-requires-2 c κs = (omega (arith, c .before .before .wide2 .ensures, c .before .before .before .before .before .before .before .before .before .before .before .before .before .before .before .pre .0 .sized .certificates), omega (arith, c .before .before .wide2 .ensures, c .before .before .before .before .before .before .before .before .before .before .before .before .before .before .before .pre .0 .sized .certificates, c .before .before .before .before .before .before .before .before .before .before .before .before .before .before .before .pre .0 .sized .size), refl, refl)
 
 slice-aggregate-judge-each : tie.Need-slice-aggregate-judge-each
 slice-aggregate-judge-each c = search needs
@@ -49,9 +49,9 @@ slice-aggregate-judge-each-3 c = search needs
 judge-each-requires : tie.Need-judge-each-requires
 judge-each-requires c κs = (
   c .before .before .before .before .before .before .before .before .before .before .before .before .before .before .before .before .before .before .before .before .before .before .pre .0,
-  rw (c .before .before .before .before .before .before .before .before .before .before .before .before .before .before .before .before .wide .ensures) at (c .before .before .before .before .before .before .before .before .before .before .before .before .before .chain .ensures .1),
-  rw (c .before .before .before .before .before .before .before .before .before .wide2 .ensures) at (c .before .before .before .before .before .before .chain2 .ensures .0),
-  rw (c .before .before .before .before .before .before .before .before .before .wide2 .ensures) at (c .before .before .before .before .before .before .chain2 .ensures .1),
+  rw (c .before .before .before .before .before .before .before .before .before .before .before .before .before .before .before .before .wide .ensures) at (c .before .before .before .before .before .before .before .before .before .before .before .before .before .queue-up .ensures .1),
+  rw (c .before .before .before .before .before .before .before .before .before .wide2 .ensures) at (c .before .before .before .before .before .before .queue-up2 .ensures .0),
+  rw (c .before .before .before .before .before .before .before .before .before .wide2 .ensures) at (c .before .before .before .before .before .before .queue-up2 .ensures .1),
   c .before .before .before .before .before .before .before .before .before .before .before .before .before .before .before .before .before .before .before .before .before .before .pre .1,
 )
 
@@ -67,14 +67,14 @@ judge-rows-spec =
     (tie.spec
     shared-slice-read-wide
     wide-requires
-    slice-aggregate-chain
-    slice-aggregate-chain-2
-    chain-requires
+    slice-aggregate-queue-up
+    slice-aggregate-queue-up-2
+    queue-up-requires
     shared-slice-read-wide-2
     wide-requires-2
-    slice-aggregate-chain-3
-    slice-aggregate-chain-4
-    chain-requires-2
+    slice-aggregate-queue-up-3
+    slice-aggregate-queue-up-4
+    queue-up-requires-2
     slice-aggregate-judge-each
     slice-aggregate-judge-each-2
     slice-aggregate-judge-each-3
