@@ -5,20 +5,20 @@ use mathlib.Core.Bool.{Bool, true, false, not, cond}
 use mathlib.Core.Logic.{_≢_}
 use mathlib.Core.List.{List, [], _∷_}
 use native.Mathlib.Omega.{arith}
-use lib.Dec.{T, eqb, leb→le}
+use lib.Dec.{T, eqb}
 use lib.ListN.{length}
 use borrow.Author.Tests.{ne-eqb}
 use Rattle.model.specs.Values.{Tables}
 use Rattle.model.specs.Layout.{policyOf, kindFrom}
-use Rattle.model.specs.Sound.{policyClauses, soundPolicy, sound}
+use Rattle.model.specs.Sound.{soundPolicy, sound}
 use Rattle.model.specs.Outcome.{Refusal, firstCode, Course, judgedFirst}
 use Rattle.model.specs.Calls.{Call, fresh, freshOn, courseOf}
 use Rattle.model.specs.Words.{Sound, FirstApplies, here, later}
 use Rattle.model.specs.declared.Answer.{Answer}
-use Rattle.model.proofs.Tests.{of-false, of-true, each}
+use Rattle.model.proofs.Tests.{of-false, of-true}
 use Rattle.table.proofs.Entries.{length-entries}
 use Rattle.inner.specs.Promise.{lent, AnswersWith, Answers}
-use Rattle.inner.proofs.Codes.{refuses}
+use Rattle.inner.proofs.Codes.{refuses, sound-kinds}
 use Rattle.calls.specs.Judgement.{judgement}
 
 -- a code given before a call's own refusals is the first that applies
@@ -54,10 +54,10 @@ pub all-sound : (t : Tables) (s : List ℕ) → soundPolicy t ≡ true → sound
 unfolding judgement
 all-sound t s e f = sym (λ i. cond (not (e i)) 1 (cond (not (f i)) 2 0))
 
--- a sound policy has at most 128 kinds
-pub sound-kinds : (t : Tables) → soundPolicy t ≡ true → length (t .kinds) / 7 ≤ 128
-unfolding policyClauses policyOf
-sound-kinds t e = omega (arith, leb→le (length (policyOf t .kinds)) 128 (each (policyClauses t) (of-true (soundPolicy t) e) .1 .1 .1 .1 .0), length-entries kindFrom 7 (t .kinds) (length (t .kinds) / 7))
+-- the kinds of a sound policy as they are lent
+pub lent-kinds : (t : Tables) → soundPolicy t ≡ true → length (t .kinds) / 7 ≤ 128
+unfolding policyOf
+lent-kinds t e = omega (arith, sound-kinds t (of-true (soundPolicy t) e), length-entries kindFrom 7 (t .kinds) (length (t .kinds) / 7))
 
 -- ── fresh ──
 

@@ -77,10 +77,14 @@ sound-form t s h = is-true (wellFormed s) (sound-formed (policyOf t) s (h .state
 pub sound-sized : (t : Tables) (s : List ℕ) → Sound t s → Sized s
 sound-sized t s h = sized s (sound-form t s h)
 
+-- a sound policy has at most 128 kinds
+pub sound-kinds : (t : Tables) → T (soundPolicy t) → length (policyOf t .kinds) ≤ 128
+unfolding policyClauses
+sound-kinds t h = leb→le (length (policyOf t .kinds)) 128 (each (policyClauses t) h .1 .1 .1 .1 .0)
+
 -- a sound state keeps the ranges
 pub sound-range : (t : Tables) (s : List ℕ) → Sound t s → InRange s
-unfolding policyClauses
-sound-range t s h = sound-in-range (policyOf t) s (leb→le (length (policyOf t .kinds)) 128 (each (policyClauses t) (h .policy) .1 .1 .1 .1 .0)) (is-true (sound (policyOf t) s) (h .state))
+sound-range t s h = sound-in-range (policyOf t) s (sound-kinds t (h .policy)) (is-true (sound (policyOf t) s) (h .state))
 
 pub row-length : (s : List ℕ) → length (decode s .rows) ≡ rowCount s
 unfolding decode
