@@ -29,7 +29,12 @@ use model::Row;
 use model::STATE_SIZE;
 use model::USERS;
 
+// Of the links between certificates the first are the beginnings of searches; behind them are two for each certificate.
 const BEGINNINGS: usize = 1024;
+
+const LINKS: usize = 1536;
+
+const NO_LINK: u16 = 256;
 
 // "64 facts, each 0 or 1"
 fn facts_are_bits(state: &[u16]) -> bool
@@ -81,8 +86,7 @@ fn well_formed(state: &[u16]) -> bool
 
 // Certificates that were seen are found again by search trees, one for each of 1,024 beginnings. `links` has the first certificate of each
 // tree, and then for each certificate the two that may come next, of which a bit of the one that is looked for picks one: another bit at
-// each step. Certificates in range are told apart by 31 bits, so a search has at most 32 steps, whatever the table. 256 says that there is
-// none.
+// each step. Certificates in range are told apart by 31 bits, so a search has at most 32 steps, whatever the table.
 fn beginning_of(certificate: Certificate) -> usize
     ensures few { λ r. ⌜ r < 1024 ⌝ }
     ensures own { λ r. ⌜ r ≡ beginning certificate ⌝ }
@@ -168,7 +172,7 @@ fn certificates_sound(kinds: &[u16], state: &[u16]) -> bool
     if state[CERTIFICATE_COUNT_AT] == 0 {
         return true;
     }
-    let mut links = [256u16; 1536];
+    let mut links = [NO_LINK; LINKS];
     each_certificate_sound(kinds, state, &mut links)
 }
 
