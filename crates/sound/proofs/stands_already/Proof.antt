@@ -49,7 +49,7 @@ same-certificate-requires c κs = search needs
 returns : tie.Need-returns Inv-loop μ-loop
 unfolding firstCertificates certificateAt
 returns c = (
-  sym (any-hit certificateFrom 3 (sameCertificate (certificateAt (c .before .before .before .before .before .before .before .before .before .before .before .before .args .state .now) (c .before .before .before .before .before .before .before .before .before .before .before .before .args .i))) (certificateNumbers (c .before .before .before .before .before .before .before .before .before .before .before .before .args .state .now)) (c .before .before .before .before .before .before .before .before .before .before .before .before .args .i) (c .before .before .before .before .loop .k) (c .before .before .before .loop-test .taken) ((λ j. sameCertificate (sym (c .before .before .before .before .before .before .before .before .before .certificate-at .ensures) j) (sym (c .before .before .certificate-at2 .ensures) j)) ∙ sym (c .before .same-certificate .ensures) ∙ c .if1 .taken)),
+  sym (any-hit certificateFrom 3 (sameCertificate (certificateAt (c .before .before .before .before .before .before .before .before .before .before .before .before .args .state .now) (c .before .before .before .before .before .before .before .before .before .before .before .before .args .i))) (certificateNumbers (c .before .before .before .before .before .before .before .before .before .before .before .before .args .state .now)) (c .before .before .before .before .before .before .before .before .before .before .before .before .args .i) (c .before .before .before .before .loop .k) (omega (arith, c .before .before .before .loop-test .taken)) ((λ j. sameCertificate (sym (c .before .before .before .before .before .before .before .before .before .certificate-at .ensures) j) (sym (c .before .before .certificate-at2 .ensures) j)) ∙ sym (c .before .same-certificate .ensures) ∙ c .if1 .taken)),
   λ q. absurd (true≢false q),
 )
 
@@ -75,7 +75,7 @@ loop-less : tie.Need-loop-less Inv-loop μ-loop
 loop-less c = omega (arith, c .wide2 .ensures, c .before .before .before .before .before .loop-test .taken, c .before .before .before .before .before .before .before .before .before .before .before .before .before .before .pre .2 .ahead (c .before .before .before .before .before .before .loop .k) (c .before .before .before .before .before .before .loop .bits) (omega (arith, c .before .before .before .before .before .before .before .before .before .before .before .before .before .before .pre .1, c .before .before .before .before .before .loop-test .taken)))
 
 loop-again : tie.Need-loop-again Inv-loop μ-loop
-loop-again c = (way-on (c .before .before .before .before .before .before .before .before .before .before .before .before .before .before .args .state .now) (c .before .before .before .before .before .before .before .before .before .before .before .before .before .before .args .i) (c .before .before .before .before .before .before .before .before .before .before .before .before .before .before .args .links .now) (c .before .before .before .before .before .before .loop .at) (c .before .before .before .before .before .before .loop .bits) (c .before .before .before .before .before .before .loop .k) (c .before .before .before .before .before .before .loop .inv .0) (c .before .before .before .before .before .before .loop .inv .1) (c .before .before .before .before .before .before .before .before .before .before .before .certificate-at .result) (c .before .before .before .before .certificate-at2 .result) (c .before .before .before .before .before .before .before .before .before .before .before .certificate-at .ensures) (c .before .before .before .before .certificate-at2 .ensures) (c .before .before .before .before .before .loop-test .taken) (c .before .before .before .before .before .before .before .before .before .before .before .before .before .before .pre .1) (sym (c .before .before .before .same-certificate .ensures) ∙ c .before .before .if1 .left), c .wide2 .ensures)
+loop-again c = (way-on (c .before .before .before .before .before .before .before .before .before .before .before .before .before .before .args .state .now) (c .before .before .before .before .before .before .before .before .before .before .before .before .before .before .args .i) (c .before .before .before .before .before .before .before .before .before .before .before .before .before .before .args .links .now) (c .before .before .before .before .before .before .loop .at) (c .before .before .before .before .before .before .loop .bits) (c .before .before .before .before .before .before .loop .k) (c .before .before .before .before .before .before .loop .inv .0) (c .before .before .before .before .before .before .loop .inv .1) (c .before .before .before .before .before .before .before .before .before .before .before .certificate-at .result) (c .before .before .before .before .certificate-at2 .result) (c .before .before .before .before .before .before .before .before .before .before .before .certificate-at .ensures) (c .before .before .before .before .certificate-at2 .ensures) (omega (arith, c .before .before .before .before .before .loop-test .taken)) (c .before .before .before .before .before .before .before .before .before .before .before .before .before .before .pre .1) (sym (c .before .before .before .same-certificate .ensures) ∙ c .before .before .if1 .left), c .wide2 .ensures)
 
 cast-links : tie.Need-cast-links Inv-loop μ-loop
 cast-links c = search needs
