@@ -1,4 +1,7 @@
 // What terminals link: the ten public calls for C. A slice is a pointer and a count; an answer is a struct by value.
+
+#![tactic(auto)]
+
 ghost use Rattle.std.specs.Prelude.{◌≡◌, []};
 ghost use Rattle.model.specs.Outcome.{Keeps};
 ghost use Rattle.model.specs.Calls.{answer, fresh as freshCall, activate as activateCall, appoint as appointCall, revoke as revokeCall, withdraw as withdrawCall, environment as environmentCall, logout as logoutCall, invoke as invokeCall, effective as effectiveCall, chain as chainCall};

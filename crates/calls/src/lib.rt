@@ -1,4 +1,7 @@
 // The public calls: any tables, any numbers. Each judges policy and state and then is the call on sound tables.
+
+#![tactic(auto)]
+
 ghost use Rattle.std.specs.Prelude.{◌≡◌, []};
 ghost use Rattle.model.specs.Calls.{fresh as freshCall, activate as activateCall, appoint as appointCall, revoke as revokeCall, withdraw as withdrawCall, environment as environmentCall, logout as logoutCall, invoke as invokeCall, effective as effectiveCall, chain as chainCall};
 ghost use Rattle.inner.specs.Promise.{lent, Answers, AnswersWith};

@@ -1,4 +1,7 @@
 // One thing of a state changes: a row or a certificate is added, a certificate goes, a fact is set.
+
+#![tactic(auto)]
+
 ghost use Rattle.std.specs.Prelude.{◌≡◌, true, [], ◌∷◌, ◌++◌, suc, ◌+◌, ◌<◌, ◌≤◌, length, get_or, take, drop};
 ghost use Rattle.model.specs.Limits.{most_rows, most_certificates, facts};
 ghost use Rattle.model.specs.Values.{with_rows, with_certificates, with_fact};

@@ -1,4 +1,7 @@
 // Direct privileges: the roles that have a privilege themselves, and whether a user is active in one.
+
+#![tactic(auto)]
+
 ghost use Rattle.std.specs.Prelude.{◌≡◌, ◌&&◌, [], ◌+◌, ◌/◌, ◌≤◌, eqb, length};
 ghost use Rattle.model.specs.Limits.{roles, right_width};
 ghost use Rattle.model.specs.Layout.{decode, policy_of};

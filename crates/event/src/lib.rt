@@ -1,5 +1,8 @@
 // What an event of the program answers. The policy is judged once, before the first event; a call leaves a sound state, so no state is
 // judged at all.
+
+#![tactic(auto)]
+
 ghost use Rattle.std.specs.Prelude.{◌<◌, ◌≤◌, T};
 ghost use Rattle.model.specs.Layout.{policy_of};
 ghost use Rattle.model.specs.Sound.{sound};

@@ -1,4 +1,7 @@
 // Rows go from a state, in place: those that have lost their support, or a user's. The rows left close up, and the count is set.
+
+#![tactic(auto)]
+
 ghost use Rattle.std.specs.Prelude.{◌≡◌, true, ℕ, ◌<◌, ◌≤◌, length};
 ghost use Rattle.model.specs.Lists.{without};
 ghost use Rattle.model.specs.Limits.{most_rows, state_size};

@@ -1,5 +1,8 @@
 // The calls that begin a state and add to it, on sound tables, for code that can show that they are sound. Each equals the model's
 // call.
+
+#![tactic(auto)]
+
 ghost use Rattle.std.specs.Prelude.{◌≡◌, [], length};
 ghost use Rattle.model.specs.Lists.{first_place};
 ghost use Rattle.model.specs.Limits.{state_size};

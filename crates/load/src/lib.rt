@@ -1,5 +1,8 @@
 // The policy of the program's input: its records as rows of three tables, up to the first record that is none of the policy or has no
 // room.
+
+#![tactic(auto)]
+
 ghost use Rattle.std.specs.Prelude.{◌≡◌, ◌++◌, ◌+◌, ◌*◌, ◌≤◌, length, take, true};
 ghost use Rattle.model.specs.Limits.{most_rules, rule_width, most_kinds, kind_width, most_rights, right_width};
 ghost use Rattle.program.specs.Program.{rule_row, kind_row, right_row, with_row};

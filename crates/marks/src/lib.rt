@@ -1,5 +1,8 @@
 // Judging conditions by marks. A user's own marks are one for each condition that is a role or a kind: the roles that the user is active
 // in, then the kinds that stand for the user. So a condition is judged in as many steps as it asks for roles, however many rows there are.
+
+#![tactic(auto)]
+
 ghost use Rattle.std.specs.Prelude.{◌≡◌, false, ◌&&◌, [], ◌+◌, ◌<◌, ◌≤◌, eqb, length, get_or, take, replicate};
 ghost use Rattle.model.specs.Lists.{all};
 ghost use Rattle.model.specs.Limits.{most_kinds};

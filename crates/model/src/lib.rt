@@ -1,5 +1,7 @@
 // The values that contracts name, and the numbers that code goes by. Everything that they mean stands in specs/.
 
+#![tactic(auto)]
+
 // "Users 0 to 4,095; roles 0 to 255; privileges 0 to 1,023; environment facts 0 to 63."
 pub const USERS: u16 = 4096;
 

@@ -1,4 +1,7 @@
 // Whether a lent policy is sound. Lent tables hold any numbers: a table is read as far as it has whole rows.
+
+#![tactic(auto)]
+
 ghost use Rattle.std.specs.Prelude.{◌≡◌, ℕ, ◌+◌, ◌/◌, ◌<◌, ◌≤◌, [], true, false, ◌&&◌, cond, ◌≢◌, eqb, ltb, length, take, drop};
 ghost use Rattle.model.specs.Lists.{all, is_zero};
 ghost use Rattle.model.specs.Limits.{roles, most_kinds, kind_width, right_width, rule_width};

@@ -1,5 +1,7 @@
 // The value that contracts name, and the numbers that code goes by. What they mean stands in specs/.
 
+#![tactic(auto)]
+
 // How many words the vocabulary has, and how many of them, the first, state the policy.
 pub const WORDS: u16 = 11;
 

@@ -1,4 +1,7 @@
 // The calls that only ask, on sound tables, for code that can show that they are sound. Each equals the model's call.
+
+#![tactic(auto)]
+
 ghost use Rattle.std.specs.Prelude.{◌≡◌, false, ◌&&◌, cond, ◌<◌, ◌≤◌, eqb, length, get_or};
 ghost use Rattle.model.specs.Limits.{roles};
 ghost use Rattle.model.specs.Layout.{row_count};

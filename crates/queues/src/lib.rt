@@ -1,5 +1,8 @@
 // Queues: the entries of a table that may be one user's, one after the other. Active rows and certificates are three numbers each, and the
 // first is a user. Users are told apart by what is left of their numbers over 512, so that of 4,096 users at most eight share a queue.
+
+#![tactic(auto)]
+
 ghost use Rattle.std.specs.Prelude.{◌≡◌, ◌+◌, ◌*◌, ◌≤◌, ◌<◌, length, replicate};
 ghost use Rattle.queues.specs.Queued.{entry_width, most_entries, no_entry, queues, queue, Begins, GoesOn};
 

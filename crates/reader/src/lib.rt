@@ -1,6 +1,9 @@
 // "A reader walks the lent text record by record, holding the text and its place". The work is done on a slice and a number, and the
 // functions over the struct are thin, since each is proved by a walk of its code. A caller of `line_from` and `next_from`, whose
 // parameters are plain, needs no such walk.
+
+#![tactic(auto)]
+
 ghost use Rattle.std.specs.Prelude.{◌≡◌};
 ghost use Rattle.reader.specs.Reading.{record_at, first_field_at, line_at, next_at};
 

@@ -1,5 +1,8 @@
 // What an active row rests on: the conditions of its own rule, the roles that they ask for, and where such a role stands. What is asked
 // is marked, at the number by which a rule names it, so that nothing is asked twice.
+
+#![tactic(auto)]
+
 ghost use Rattle.std.specs.Prelude.{◌≡◌, [], ◌≤◌, ◌<◌, length, get_or, take};
 ghost use Rattle.model.specs.Limits.{roles, state_size, most_rows};
 ghost use Rattle.model.specs.Layout.{policy_of};

@@ -1,4 +1,7 @@
 // The program as one function: the bytes of the input in, the bytes of the output out.
+
+#![tactic(auto)]
+
 ghost use Rattle.std.specs.Prelude.{[], ◌+◌, ◌*◌, ◌≤◌, T, length};
 ghost use Rattle.model.specs.Layout.{policy_of};
 ghost use Rattle.model.specs.Sound.{sound};

@@ -1,4 +1,7 @@
 // Whether a lent state is sound. A lent state holds any numbers, so a count is bounded before rows are read.
+
+#![tactic(auto)]
+
 ghost use Rattle.std.specs.Prelude.{◌≡◌, ◌+◌, ◌/◌, ◌<◌, ◌≤◌, true, false, [], length, take};
 ghost use Rattle.model.specs.Lists.{all, any, all_over_earlier, is_bit};
 ghost use Rattle.model.specs.Limits.{state_size, most_certificates, most_kinds, kind_width};

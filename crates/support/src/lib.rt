@@ -1,5 +1,8 @@
 // Which rows keep their support, in one pass from the first row to the last. A row rests on earlier rows of its own user only, so users are
 // judged one after the other, each along the queue of the user's rows: one user's marks are all that is kept at a time.
+
+#![tactic(auto)]
+
 ghost use Rattle.std.specs.Prelude.{◌≡◌, ◌≢◌, false, [], ℕ, ◌+◌, ◌<◌, replicate};
 ghost use Rattle.model.specs.Limits.{most_rows};
 ghost use Rattle.model.specs.Layout.{decode, row_count, certificate_count, rows_at, certificates_at};

@@ -10,6 +10,7 @@ pub data Fails : List Bool → Type 0 where
   later : {b : Bool} {bs : List Bool} → Fails bs → Fails (b ∷ bs)
 
 pub fails : (bs : List Bool) → Fails bs → false ≡ every bs
+fails [] x' = elim x' [ ]
 fails (b ∷ bs) (here e) = ap (λ (x : Bool). x && every bs) (sym e)
 fails (b ∷ bs) (later f) = sym (and-false b) ∙ ap (λ (x : Bool). b && x) (fails bs f)
 

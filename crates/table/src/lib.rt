@@ -1,4 +1,7 @@
 // Reading the lent tables, and writing their numbers. Every index is bounded before it is used: lent tables hold any numbers.
+
+#![tactic(auto)]
+
 ghost use Rattle.std.specs.Prelude.{[], ◌≡◌, ◌+◌, ◌/◌, ◌<◌, ◌≤◌, min, length, take, drop};
 ghost use Rattle.model.specs.Lists.{all, is_zero};
 ghost use Rattle.model.specs.Limits.{rule_width, kind_width, right_width, state_size, most_rows, most_certificates};

@@ -1,5 +1,8 @@
 // The calls that may take something away (a certificate, a fact, a user's rows) and what falls with it, on sound tables, for code that
 // can show that they are sound. Each equals the model's call.
+
+#![tactic(auto)]
+
 ghost use Rattle.std.specs.Prelude.{◌≡◌, true, [], ◌++◌, suc, ◌<◌, ◌≤◌, take, drop};
 ghost use Rattle.model.specs.Limits.{facts};
 ghost use Rattle.model.specs.Values.{with_certificates, with_fact};

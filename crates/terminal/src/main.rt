@@ -1,5 +1,8 @@
 // The program: reads its input until the end or one byte past the limit, and writes what it answers. The output has room for twice the
 // input and 16 bytes, which `session` asks for.
+
+#![tactic(auto)]
+
 use libc::{STDIN_FILENO, STDOUT_FILENO};
 use session::MOST_BYTES;
 

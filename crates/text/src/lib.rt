@@ -1,4 +1,7 @@
 // The scanner: where records and fields of a lent text end, what a field says, and a record as a line. Nothing is copied but numbers.
+
+#![tactic(auto)]
+
 ghost use Rattle.std.specs.Prelude.{◌≡◌, ◌&&◌, ◌<◌, ◌≤◌, leb, length, drop};
 ghost use Rattle.program.specs.Text.{is_digit, unquoted};
 ghost use Rattle.program.specs.Vocabulary.{words, same, word_of, numbered};

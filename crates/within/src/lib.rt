@@ -1,5 +1,8 @@
 // The ten calls without judging, so that they can be measured by themselves. Terminals do not link them: who calls one without sound
 // tables is promised nothing.
+
+#![tactic(auto)]
+
 ghost use Rattle.std.specs.Prelude.{◌≡◌, [], length};
 ghost use Rattle.model.specs.Limits.{state_size};
 ghost use Rattle.model.specs.Outcome.{Keeps};

@@ -1,4 +1,7 @@
 // Writing what the program answers into a lent slice of bytes, at a place; each function returns the place behind what it wrote.
+
+#![tactic(auto)]
+
 ghost use Rattle.std.specs.Prelude.{[], ◌∷◌, ◌+◌, ◌<◌, ◌≤◌, length};
 ghost use Rattle.program.specs.Text.{cr, lf, decimal};
 ghost use Rattle.program.specs.Program.{answer_record, bad_record};
