@@ -2,7 +2,6 @@ use Prim.Native.Nat.{ℕ, ◌-◌}
 use mathlib.Core.Path.{sym, ◌∙◌}
 use mathlib.Core.Bool.{Bool}
 use mathlib.Core.List.{List, []}
-use borrow.Author.Tests.{not-true}
 use Rattle.model.specs.Conditions.{meant}
 use Rattle.table.specs.Entries.{world_at}
 use Rattle.marks.specs.Marked.{has, holds_by}
@@ -14,4 +13,4 @@ abbrev test : List ℕ → List ℕ → List Bool → ℕ → Bool
 test kinds state own c = holds_by (has own) (world_at [] kinds state) (meant c)
 
 pub returns-then-not-condition_holds : goal.returns-then-not-condition_holds
-returns-then-not-condition_holds c = sym (all_miss (test c.args.kinds.now c.args.state.now c.args.own.now) c.args.t4 0 c.args.n c.loop-j.j c.loop-j-test.true (search rules) (sym c.condition_holds.ensures ∙ not-true _ c.if-not-condition_holds.true))
+returns-then-not-condition_holds c = sym (all_miss (test c.args.kinds.now c.args.state.now c.args.own.now) c.args.conditions 0 c.args.n c.loop-j.j c.loop-j-test.true (search rules) (sym c.condition_holds.ensures ∙ c.if-not-condition_holds.true))

@@ -1,4 +1,3 @@
-use Prim.Native.Nat.{◌-◌}
 use mathlib.Core.Path.{refl, sym, ap, ◌∙◌}
 use Rattle.model.specs.Layout.{row_from, row_numbers}
 use Rattle.model.specs.Conditions.{is_row, active}
