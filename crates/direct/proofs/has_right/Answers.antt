@@ -1,0 +1,15 @@
+use Prim.Native.Nat.{ℕ}
+use mathlib.Core.Path.{sym, ap, ◌∙◌}
+use mathlib.Core.Bool.{Bool, false, ◌&&◌}
+use borrow.Author.Tests.{lt-ltb, le-ltb}
+use lib.ListN.{get_or}
+use Rattle.direct.specs.Having.{holds_right}
+use Rattle.direct.proofs.has_right.Goals as goal
+
+pub returns-then-role-lt-ROLES : goal.returns-then-role-lt-ROLES
+unfolding holds_right
+returns-then-role-lt-ROLES c = ap (λ (n : ℕ). get_or c.args.having.now n false) c.wide.ensures ∙ sym (ap (λ (b : Bool). b && get_or c.args.having.now c.args.role false) (lt-ltb _ _ c.if-role-lt-ROLES.true))
+
+pub returns : goal.returns
+unfolding holds_right
+returns c = sym (ap (λ (b : Bool). b && get_or c.args.having.now c.args.role false) (le-ltb _ _ c.if-role-lt-ROLES.false))
