@@ -84,7 +84,7 @@ pub const MAY_NOT_REVOKE: u16 = 10;
 pub const NOT_ACTIVE: u16 = 12;
 
 // A row of the rules: "target role, n, m, then eight conditions".
-#[derive(Drop)]
+#[derive(Clone, Copy)]
 pub struct Rule {
     pub target: u16,
     pub n: u16,
@@ -93,7 +93,7 @@ pub struct Rule {
 }
 
 // A row of the kinds: "appointer role, mode, s, then four prerequisite roles".
-#[derive(Drop)]
+#[derive(Clone, Copy)]
 pub struct Kind {
     pub appointer: u16,
     pub mode: u16,
@@ -102,14 +102,14 @@ pub struct Kind {
 }
 
 // A row of the rights: "role, privilege".
-#[derive(Drop)]
+#[derive(Clone, Copy)]
 pub struct Right {
     pub role: u16,
     pub privilege: u16,
 }
 
 // An active row: "user, role, rule".
-#[derive(Drop)]
+#[derive(Clone, Copy)]
 pub struct Row {
     pub user: u16,
     pub role: u16,
@@ -117,7 +117,7 @@ pub struct Row {
 }
 
 // A certificate row: "appointee, kind, appointer".
-#[derive(Drop)]
+#[derive(Clone, Copy)]
 pub struct Certificate {
     pub appointee: u16,
     pub kind: u16,
@@ -125,7 +125,7 @@ pub struct Certificate {
 }
 
 // "Each answers a code and a second number." What they are is said of a call's outcome, in specs/Outcome.antt.
-#[derive(Drop)]
+#[derive(Clone, Copy)]
 pub struct Answer {
     pub code: u16,
     pub second: u16,
