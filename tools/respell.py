@@ -24,6 +24,10 @@ APART = {"hasRight": "holds_right", "of-user": "of_the_user"}
 CODE = "`[^`]*`"
 
 
+# What an import gives another name, as `fresh as freshCall`.
+ALIAS = re.compile(r"\b([a-z]+)Call\b")
+
+
 def camel(name):
     return re.sub(r"(?<=[a-z0-9])([A-Z])", lambda m: "_" + m.group(1).lower(), name)
 
@@ -108,7 +112,7 @@ def turn_comment(text, to):
 
 def turn_lines(text, to, mark):
     lines = []
-    for line in text.split("\n"):
+    for line in ALIAS.sub(r"\1_call", text).split("\n"):
         at = line.find(mark)
         at = len(line) if at < 0 else at
         lines.append(turn(line[:at], to) + turn_comment(line[at:], to))
@@ -124,7 +128,7 @@ def turn_source(text, to):
             lines.append(turn(line, to))
         else:
             lines.append(NAME.sub(lambda m: camels.get(m.group(0), m.group(0)), line))
-    return "\n".join(lines)
+    return ALIAS.sub(r"\1_call", "\n".join(lines))
 
 
 # ── the texts of edits ──
@@ -168,7 +172,7 @@ def turn_edit(text, to):
             for a, b in [("lib.ListN.", "Rattle.std.specs.Prelude."), ("lib.Dec.", "Rattle.std.specs.Prelude."), ("getD", "get_or")]:
                 body = body.replace(a, b)
             body = NAME.sub(lambda m: camel(m.group(0)) if m.group(0)[0].islower() else m.group(0), turn(projections(body), to))
-        out.append(line[:5] + body)
+        out.append(line[:5] + ALIAS.sub(r"\1_call", body))
     return "\n".join(out)
 
 

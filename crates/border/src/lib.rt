@@ -4,7 +4,7 @@
 
 ghost use Rattle.std.specs.Prelude.{◌≡◌, []};
 ghost use Rattle.model.specs.Outcome.{Keeps};
-ghost use Rattle.model.specs.Calls.{answer, fresh as freshCall, activate as activateCall, appoint as appointCall, revoke as revokeCall, withdraw as withdrawCall, environment as environmentCall, logout as logoutCall, invoke as invokeCall, effective as effectiveCall, chain as chainCall};
+ghost use Rattle.model.specs.Calls.{answer, fresh as fresh_call, activate as activate_call, appoint as appoint_call, revoke as revoke_call, withdraw as withdraw_call, environment as environment_call, logout as logout_call, invoke as invoke_call, effective as effective_call, chain as chain_call};
 ghost use Rattle.inner.specs.Promise.{lent};
 
 use model::Answer;
@@ -28,7 +28,7 @@ fn reply_of(answer: Answer) -> Reply
 
 #[unsafe(no_mangle)]
 pub extern "C" fn adobethrum_fresh(state: &mut [u16]) -> Reply
-    ensures { Keeps (answer (lent [] [] []) state.old [] freshCall) result.code result.second state.new [] }
+    ensures { Keeps (answer (lent [] [] []) state.old [] fresh_call) result.code result.second state.new [] }
 {
     reply_of(calls::fresh(state))
 }
@@ -42,7 +42,7 @@ pub extern "C" fn adobethrum_activate(
     user: u16,
     role: u16,
 ) -> Reply
-    ensures { Keeps (answer (lent rules.now kinds.now rights.now) state.old [] (activateCall user role)) result.code result.second state.new [] }
+    ensures { Keeps (answer (lent rules.now kinds.now rights.now) state.old [] (activate_call user role)) result.code result.second state.new [] }
 {
     reply_of(calls::activate(rules, kinds, rights, state, user, role))
 }
@@ -57,7 +57,7 @@ pub extern "C" fn adobethrum_appoint(
     appointee: u16,
     kind: u16,
 ) -> Reply
-    ensures { Keeps (answer (lent rules.now kinds.now rights.now) state.old [] (appointCall appointer appointee kind)) result.code result.second state.new [] }
+    ensures { Keeps (answer (lent rules.now kinds.now rights.now) state.old [] (appoint_call appointer appointee kind)) result.code result.second state.new [] }
 {
     reply_of(calls::appoint(rules, kinds, rights, state, appointer, appointee, kind))
 }
@@ -73,7 +73,7 @@ pub extern "C" fn adobethrum_revoke(
     kind: u16,
     appointer: u16,
 ) -> Reply
-    ensures { Keeps (answer (lent rules.now kinds.now rights.now) state.old [] (revokeCall caller appointee kind appointer)) result.code result.second state.new [] }
+    ensures { Keeps (answer (lent rules.now kinds.now rights.now) state.old [] (revoke_call caller appointee kind appointer)) result.code result.second state.new [] }
 {
     reply_of(calls::revoke(
         rules, kinds, rights, state, caller, appointee, kind, appointer,
@@ -90,7 +90,7 @@ pub extern "C" fn adobethrum_withdraw(
     kind: u16,
     appointer: u16,
 ) -> Reply
-    ensures { Keeps (answer (lent rules.now kinds.now rights.now) state.old [] (withdrawCall appointee kind appointer)) result.code result.second state.new [] }
+    ensures { Keeps (answer (lent rules.now kinds.now rights.now) state.old [] (withdraw_call appointee kind appointer)) result.code result.second state.new [] }
 {
     reply_of(calls::withdraw(rules, kinds, rights, state, appointee, kind, appointer))
 }
@@ -104,7 +104,7 @@ pub extern "C" fn adobethrum_environment(
     fact: u16,
     value: u16,
 ) -> Reply
-    ensures { Keeps (answer (lent rules.now kinds.now rights.now) state.old [] (environmentCall fact value)) result.code result.second state.new [] }
+    ensures { Keeps (answer (lent rules.now kinds.now rights.now) state.old [] (environment_call fact value)) result.code result.second state.new [] }
 {
     reply_of(calls::environment(rules, kinds, rights, state, fact, value))
 }
@@ -117,7 +117,7 @@ pub extern "C" fn adobethrum_logout(
     state: &mut [u16],
     user: u16,
 ) -> Reply
-    ensures { Keeps (answer (lent rules.now kinds.now rights.now) state.old [] (logoutCall user)) result.code result.second state.new [] }
+    ensures { Keeps (answer (lent rules.now kinds.now rights.now) state.old [] (logout_call user)) result.code result.second state.new [] }
 {
     reply_of(calls::logout(rules, kinds, rights, state, user))
 }
@@ -131,7 +131,7 @@ pub extern "C" fn adobethrum_invoke(
     user: u16,
     privilege: u16,
 ) -> Reply
-    ensures { Keeps (answer (lent rules.now kinds.now rights.now) state.now [] (invokeCall user privilege)) result.code result.second state.now [] }
+    ensures { Keeps (answer (lent rules.now kinds.now rights.now) state.now [] (invoke_call user privilege)) result.code result.second state.now [] }
 {
     reply_of(calls::invoke(rules, kinds, rights, state, user, privilege))
 }
@@ -146,7 +146,7 @@ pub extern "C" fn adobethrum_effective(
     role: u16,
     privilege: u16,
 ) -> Reply
-    ensures { Keeps (answer (lent rules.now kinds.now rights.now) state.now [] (effectiveCall user role privilege)) result.code result.second state.now [] }
+    ensures { Keeps (answer (lent rules.now kinds.now rights.now) state.now [] (effective_call user role privilege)) result.code result.second state.now [] }
 {
     reply_of(calls::effective(rules, kinds, rights, state, user, role, privilege))
 }
@@ -161,7 +161,7 @@ pub extern "C" fn adobethrum_chain(
     role: u16,
     list: &mut [u16],
 ) -> Reply
-    ensures { Keeps (answer (lent rules.now kinds.now rights.now) state.now list.old (chainCall user role)) result.code result.second state.now list.new }
+    ensures { Keeps (answer (lent rules.now kinds.now rights.now) state.now list.old (chain_call user role)) result.code result.second state.now list.new }
 {
     reply_of(calls::chain(rules, kinds, rights, state, user, role, list))
 }

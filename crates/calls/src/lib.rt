@@ -3,7 +3,7 @@
 #![tactic(auto)]
 
 ghost use Rattle.std.specs.Prelude.{◌≡◌, []};
-ghost use Rattle.model.specs.Calls.{fresh as freshCall, activate as activateCall, appoint as appointCall, revoke as revokeCall, withdraw as withdrawCall, environment as environmentCall, logout as logoutCall, invoke as invokeCall, effective as effectiveCall, chain as chainCall};
+ghost use Rattle.model.specs.Calls.{fresh as fresh_call, activate as activate_call, appoint as appoint_call, revoke as revoke_call, withdraw as withdraw_call, environment as environment_call, logout as logout_call, invoke as invoke_call, effective as effective_call, chain as chain_call};
 ghost use Rattle.inner.specs.Promise.{lent, Answers, AnswersWith};
 ghost use Rattle.calls.specs.Judgement.{judgement};
 
@@ -24,7 +24,7 @@ fn judge(rules: &[u16], kinds: &[u16], rights: &[u16], state: &[u16]) -> u16
 
 // All zeros. Only the length is judged, so that a spoilt state can be cleared.
 pub fn fresh(state: &mut [u16]) -> Answer
-    ensures { Answers (lent [] [] []) state.old freshCall result state.new }
+    ensures { Answers (lent [] [] []) state.old fresh_call result state.new }
 {
     if state.len() != STATE_SIZE {
         return inner::refused(UNSOUND_STATE);
@@ -40,7 +40,7 @@ pub fn activate(
     user: u16,
     role: u16,
 ) -> Answer
-    ensures { Answers (lent rules.now kinds.now rights.now) state.old (activateCall user role) result state.new }
+    ensures { Answers (lent rules.now kinds.now rights.now) state.old (activate_call user role) result state.new }
 {
     let code = judge(rules, kinds, rights, state);
     if code != 0 {
@@ -58,7 +58,7 @@ pub fn appoint(
     appointee: u16,
     kind: u16,
 ) -> Answer
-    ensures { Answers (lent rules.now kinds.now rights.now) state.old (appointCall appointer appointee kind) result state.new }
+    ensures { Answers (lent rules.now kinds.now rights.now) state.old (appoint_call appointer appointee kind) result state.new }
 {
     let code = judge(rules, kinds, rights, state);
     if code != 0 {
@@ -77,7 +77,7 @@ pub fn revoke(
     kind: u16,
     appointer: u16,
 ) -> Answer
-    ensures { Answers (lent rules.now kinds.now rights.now) state.old (revokeCall caller appointee kind appointer) result state.new }
+    ensures { Answers (lent rules.now kinds.now rights.now) state.old (revoke_call caller appointee kind appointer) result state.new }
 {
     let code = judge(rules, kinds, rights, state);
     if code != 0 {
@@ -97,7 +97,7 @@ pub fn withdraw(
     kind: u16,
     appointer: u16,
 ) -> Answer
-    ensures { Answers (lent rules.now kinds.now rights.now) state.old (withdrawCall appointee kind appointer) result state.new }
+    ensures { Answers (lent rules.now kinds.now rights.now) state.old (withdraw_call appointee kind appointer) result state.new }
 {
     let code = judge(rules, kinds, rights, state);
     if code != 0 {
@@ -114,7 +114,7 @@ pub fn environment(
     fact: u16,
     value: u16,
 ) -> Answer
-    ensures { Answers (lent rules.now kinds.now rights.now) state.old (environmentCall fact value) result state.new }
+    ensures { Answers (lent rules.now kinds.now rights.now) state.old (environment_call fact value) result state.new }
 {
     let code = judge(rules, kinds, rights, state);
     if code != 0 {
@@ -124,7 +124,7 @@ pub fn environment(
 }
 
 pub fn logout(rules: &[u16], kinds: &[u16], rights: &[u16], state: &mut [u16], user: u16) -> Answer
-    ensures { Answers (lent rules.now kinds.now rights.now) state.old (logoutCall user) result state.new }
+    ensures { Answers (lent rules.now kinds.now rights.now) state.old (logout_call user) result state.new }
 {
     let code = judge(rules, kinds, rights, state);
     if code != 0 {
@@ -141,7 +141,7 @@ pub fn invoke(
     user: u16,
     privilege: u16,
 ) -> Answer
-    ensures { Answers (lent rules.now kinds.now rights.now) state.now (invokeCall user privilege) result state.now }
+    ensures { Answers (lent rules.now kinds.now rights.now) state.now (invoke_call user privilege) result state.now }
 {
     let code = judge(rules, kinds, rights, state);
     if code != 0 {
@@ -159,7 +159,7 @@ pub fn effective(
     role: u16,
     privilege: u16,
 ) -> Answer
-    ensures { Answers (lent rules.now kinds.now rights.now) state.now (effectiveCall user role privilege) result state.now }
+    ensures { Answers (lent rules.now kinds.now rights.now) state.now (effective_call user role privilege) result state.now }
 {
     let code = judge(rules, kinds, rights, state);
     if code != 0 {
@@ -177,7 +177,7 @@ pub fn chain(
     role: u16,
     list: &mut [u16],
 ) -> Answer
-    ensures { AnswersWith (lent rules.now kinds.now rights.now) state.now list.old (chainCall user role) result state.now list.new }
+    ensures { AnswersWith (lent rules.now kinds.now rights.now) state.now list.old (chain_call user role) result state.now list.new }
 {
     let code = judge(rules, kinds, rights, state);
     if code != 0 {

@@ -9,7 +9,7 @@ ghost use Rattle.model.specs.Limits.{state_size};
 ghost use Rattle.model.specs.Layout.{decode, policy_of};
 ghost use Rattle.model.specs.Conditions.{active, kind_numbered};
 ghost use Rattle.model.specs.Sound.{same_certificate};
-ghost use Rattle.model.specs.Calls.{fresh as freshCall, activate as activateCall, appoint as appointCall};
+ghost use Rattle.model.specs.Calls.{fresh as fresh_call, activate as activate_call, appoint as appoint_call};
 ghost use Rattle.model.specs.Words.{Sound};
 ghost use Rattle.table.specs.Entries.{world_at, without_rights, Sized};
 ghost use Rattle.marks.specs.Marked.{own_marks, has, satisfied_by};
@@ -66,7 +66,7 @@ pub fn find_certificate(state: &[u16], certificate: Certificate) -> usize
 // All zeros, in a state of the right length.
 pub fn fresh(state: &mut [u16]) -> Answer
     requires { length state.old ≡ state_size }
-    ensures { Answers (lent [] [] []) state.old freshCall result state.new }
+    ensures { Answers (lent [] [] []) state.old fresh_call result state.new }
 {
     table::zero(state, 0, STATE_SIZE);
     Answer { code: 0, second: 0 }
@@ -82,7 +82,7 @@ pub fn activate(
     role: u16,
 ) -> Answer
     requires { Sound (lent rules.now kinds.now rights.now) state.old }
-    ensures { Answers (lent rules.now kinds.now rights.now) state.old (activateCall user role) result state.new }
+    ensures { Answers (lent rules.now kinds.now rights.now) state.old (activate_call user role) result state.new }
 {
     if USERS <= user {
         return refused(OUT_OF_RANGE);
@@ -132,7 +132,7 @@ pub fn appoint(
     kind: u16,
 ) -> Answer
     requires { Sound (lent rules.now kinds.now rights.now) state.old }
-    ensures { Answers (lent rules.now kinds.now rights.now) state.old (appointCall appointer appointee kind) result state.new }
+    ensures { Answers (lent rules.now kinds.now rights.now) state.old (appoint_call appointer appointee kind) result state.new }
 {
     if USERS <= appointer {
         return refused(OUT_OF_RANGE);

@@ -5,7 +5,7 @@
 ghost use Rattle.std.specs.Prelude.{◌≡◌, false, ◌&&◌, cond, ◌<◌, ◌≤◌, eqb, length, get_or};
 ghost use Rattle.model.specs.Limits.{roles};
 ghost use Rattle.model.specs.Layout.{row_count};
-ghost use Rattle.model.specs.Calls.{invoke as invokeCall, effective as effectiveCall, chain as chainCall};
+ghost use Rattle.model.specs.Calls.{invoke as invoke_call, effective as effective_call, chain as chain_call};
 ghost use Rattle.model.specs.Words.{Sound};
 ghost use Rattle.table.specs.Entries.{without_rights};
 ghost use Rattle.inner.specs.Promise.{lent, Answers, AnswersWith};
@@ -36,7 +36,7 @@ pub fn invoke(
     privilege: u16,
 ) -> Answer
     requires { Sound (lent rules.now kinds.now rights.now) state.now }
-    ensures { Answers (lent rules.now kinds.now rights.now) state.now (invokeCall user privilege) result state.now }
+    ensures { Answers (lent rules.now kinds.now rights.now) state.now (invoke_call user privilege) result state.now }
 {
     if USERS <= user {
         return inner::refused(OUT_OF_RANGE);
@@ -126,7 +126,7 @@ pub fn effective(
     privilege: u16,
 ) -> Answer
     requires { Sound (lent rules.now kinds.now rights.now) state.now }
-    ensures { Answers (lent rules.now kinds.now rights.now) state.now (effectiveCall user role privilege) result state.now }
+    ensures { Answers (lent rules.now kinds.now rights.now) state.now (effective_call user role privilege) result state.now }
 {
     if USERS <= user {
         return inner::refused(OUT_OF_RANGE);
@@ -158,7 +158,7 @@ pub fn chain(
     list: &mut [u16],
 ) -> Answer
     requires { Sound (lent rules.now kinds.now rights.now) state.now }
-    ensures { AnswersWith (lent rules.now kinds.now rights.now) state.now list.old (chainCall user role) result state.now list.new }
+    ensures { AnswersWith (lent rules.now kinds.now rights.now) state.now list.old (chain_call user role) result state.now list.new }
 {
     if USERS <= user {
         return inner::refused(OUT_OF_RANGE);

@@ -9,7 +9,7 @@ ghost use Rattle.model.specs.Values.{with_certificates, with_fact};
 ghost use Rattle.model.specs.Layout.{decode, policy_of, certificate_count};
 ghost use Rattle.model.specs.Conditions.{kind_numbered};
 ghost use Rattle.model.specs.Sound.{well_formed};
-ghost use Rattle.model.specs.Calls.{revoke as revokeCall, withdraw as withdrawCall, environment as environmentCall, logout as logoutCall, may_revoke};
+ghost use Rattle.model.specs.Calls.{revoke as revoke_call, withdraw as withdraw_call, environment as environment_call, logout as logout_call, may_revoke};
 ghost use Rattle.model.specs.Outcome.{given};
 ghost use Rattle.model.specs.Words.{Sound};
 ghost use Rattle.table.specs.Entries.{without_rights, Sized};
@@ -94,7 +94,7 @@ pub fn revoke(
     appointer: u16,
 ) -> Answer
     requires { Sound (lent rules.now kinds.now rights.now) state.old }
-    ensures { Answers (lent rules.now kinds.now rights.now) state.old (revokeCall caller appointee kind appointer) result state.new }
+    ensures { Answers (lent rules.now kinds.now rights.now) state.old (revoke_call caller appointee kind appointer) result state.new }
 {
     if USERS <= caller {
         return inner::refused(OUT_OF_RANGE);
@@ -118,7 +118,7 @@ pub fn withdraw(
     appointer: u16,
 ) -> Answer
     requires { Sound (lent rules.now kinds.now rights.now) state.old }
-    ensures { Answers (lent rules.now kinds.now rights.now) state.old (withdrawCall appointee kind appointer) result state.new }
+    ensures { Answers (lent rules.now kinds.now rights.now) state.old (withdraw_call appointee kind appointer) result state.new }
 {
     let certificate = Certificate {
         appointee,
@@ -151,7 +151,7 @@ pub fn environment(
     value: u16,
 ) -> Answer
     requires { Sound (lent rules.now kinds.now rights.now) state.old }
-    ensures { Answers (lent rules.now kinds.now rights.now) state.old (environmentCall fact value) result state.new }
+    ensures { Answers (lent rules.now kinds.now rights.now) state.old (environment_call fact value) result state.new }
 {
     if FACTS <= fact {
         return inner::refused(OUT_OF_RANGE);
@@ -165,7 +165,7 @@ pub fn environment(
 
 pub fn logout(rules: &[u16], kinds: &[u16], rights: &[u16], state: &mut [u16], user: u16) -> Answer
     requires { Sound (lent rules.now kinds.now rights.now) state.old }
-    ensures { Answers (lent rules.now kinds.now rights.now) state.old (logoutCall user) result state.new }
+    ensures { Answers (lent rules.now kinds.now rights.now) state.old (logout_call user) result state.new }
 {
     if USERS <= user {
         return inner::refused(OUT_OF_RANGE);

@@ -6,7 +6,7 @@
 ghost use Rattle.std.specs.Prelude.{◌≡◌, [], length};
 ghost use Rattle.model.specs.Limits.{state_size};
 ghost use Rattle.model.specs.Outcome.{Keeps};
-ghost use Rattle.model.specs.Calls.{answer, fresh as freshCall, activate as activateCall, appoint as appointCall, revoke as revokeCall, withdraw as withdrawCall, environment as environmentCall, logout as logoutCall, invoke as invokeCall, effective as effectiveCall, chain as chainCall};
+ghost use Rattle.model.specs.Calls.{answer, fresh as fresh_call, activate as activate_call, appoint as appoint_call, revoke as revoke_call, withdraw as withdraw_call, environment as environment_call, logout as logout_call, invoke as invoke_call, effective as effective_call, chain as chain_call};
 ghost use Rattle.model.specs.Words.{Sound};
 ghost use Rattle.inner.specs.Promise.{lent};
 
@@ -31,7 +31,7 @@ fn reply_of(answer: Answer) -> Reply
 #[unsafe(no_mangle)]
 pub extern "C" fn within_fresh(state: &mut [u16]) -> Reply
     requires { length state.old ≡ state_size }
-    ensures { Keeps (answer (lent [] [] []) state.old [] freshCall) result.code result.second state.new [] }
+    ensures { Keeps (answer (lent [] [] []) state.old [] fresh_call) result.code result.second state.new [] }
 {
     reply_of(inner::fresh(state))
 }
@@ -46,7 +46,7 @@ pub extern "C" fn within_activate(
     role: u16,
 ) -> Reply
     requires { Sound (lent rules.now kinds.now rights.now) state.old }
-    ensures { Keeps (answer (lent rules.now kinds.now rights.now) state.old [] (activateCall user role)) result.code result.second state.new [] }
+    ensures { Keeps (answer (lent rules.now kinds.now rights.now) state.old [] (activate_call user role)) result.code result.second state.new [] }
 {
     reply_of(inner::activate(rules, kinds, rights, state, user, role))
 }
@@ -62,7 +62,7 @@ pub extern "C" fn within_appoint(
     kind: u16,
 ) -> Reply
     requires { Sound (lent rules.now kinds.now rights.now) state.old }
-    ensures { Keeps (answer (lent rules.now kinds.now rights.now) state.old [] (appointCall appointer appointee kind)) result.code result.second state.new [] }
+    ensures { Keeps (answer (lent rules.now kinds.now rights.now) state.old [] (appoint_call appointer appointee kind)) result.code result.second state.new [] }
 {
     reply_of(inner::appoint(rules, kinds, rights, state, appointer, appointee, kind))
 }
@@ -79,7 +79,7 @@ pub extern "C" fn within_revoke(
     appointer: u16,
 ) -> Reply
     requires { Sound (lent rules.now kinds.now rights.now) state.old }
-    ensures { Keeps (answer (lent rules.now kinds.now rights.now) state.old [] (revokeCall caller appointee kind appointer)) result.code result.second state.new [] }
+    ensures { Keeps (answer (lent rules.now kinds.now rights.now) state.old [] (revoke_call caller appointee kind appointer)) result.code result.second state.new [] }
 {
     reply_of(taking::revoke(
         rules, kinds, rights, state, caller, appointee, kind, appointer,
@@ -97,7 +97,7 @@ pub extern "C" fn within_withdraw(
     appointer: u16,
 ) -> Reply
     requires { Sound (lent rules.now kinds.now rights.now) state.old }
-    ensures { Keeps (answer (lent rules.now kinds.now rights.now) state.old [] (withdrawCall appointee kind appointer)) result.code result.second state.new [] }
+    ensures { Keeps (answer (lent rules.now kinds.now rights.now) state.old [] (withdraw_call appointee kind appointer)) result.code result.second state.new [] }
 {
     reply_of(taking::withdraw(rules, kinds, rights, state, appointee, kind, appointer))
 }
@@ -112,7 +112,7 @@ pub extern "C" fn within_environment(
     value: u16,
 ) -> Reply
     requires { Sound (lent rules.now kinds.now rights.now) state.old }
-    ensures { Keeps (answer (lent rules.now kinds.now rights.now) state.old [] (environmentCall fact value)) result.code result.second state.new [] }
+    ensures { Keeps (answer (lent rules.now kinds.now rights.now) state.old [] (environment_call fact value)) result.code result.second state.new [] }
 {
     reply_of(taking::environment(rules, kinds, rights, state, fact, value))
 }
@@ -126,7 +126,7 @@ pub extern "C" fn within_logout(
     user: u16,
 ) -> Reply
     requires { Sound (lent rules.now kinds.now rights.now) state.old }
-    ensures { Keeps (answer (lent rules.now kinds.now rights.now) state.old [] (logoutCall user)) result.code result.second state.new [] }
+    ensures { Keeps (answer (lent rules.now kinds.now rights.now) state.old [] (logout_call user)) result.code result.second state.new [] }
 {
     reply_of(taking::logout(rules, kinds, rights, state, user))
 }
@@ -141,7 +141,7 @@ pub extern "C" fn within_invoke(
     privilege: u16,
 ) -> Reply
     requires { Sound (lent rules.now kinds.now rights.now) state.now }
-    ensures { Keeps (answer (lent rules.now kinds.now rights.now) state.now [] (invokeCall user privilege)) result.code result.second state.now [] }
+    ensures { Keeps (answer (lent rules.now kinds.now rights.now) state.now [] (invoke_call user privilege)) result.code result.second state.now [] }
 {
     reply_of(query::invoke(rules, kinds, rights, state, user, privilege))
 }
@@ -157,7 +157,7 @@ pub extern "C" fn within_effective(
     privilege: u16,
 ) -> Reply
     requires { Sound (lent rules.now kinds.now rights.now) state.now }
-    ensures { Keeps (answer (lent rules.now kinds.now rights.now) state.now [] (effectiveCall user role privilege)) result.code result.second state.now [] }
+    ensures { Keeps (answer (lent rules.now kinds.now rights.now) state.now [] (effective_call user role privilege)) result.code result.second state.now [] }
 {
     reply_of(query::effective(rules, kinds, rights, state, user, role, privilege))
 }
@@ -173,7 +173,7 @@ pub extern "C" fn within_chain(
     list: &mut [u16],
 ) -> Reply
     requires { Sound (lent rules.now kinds.now rights.now) state.now }
-    ensures { Keeps (answer (lent rules.now kinds.now rights.now) state.now list.old (chainCall user role)) result.code result.second state.now list.new }
+    ensures { Keeps (answer (lent rules.now kinds.now rights.now) state.now list.old (chain_call user role)) result.code result.second state.now list.new }
 {
     reply_of(query::chain(rules, kinds, rights, state, user, role, list))
 }

@@ -1,0 +1,29 @@
+-- Two functions that call each other: roles go down the rows, and hand over where a row names a kind that has not asked. The measure is
+-- twice the place, and one more for certificates, which hand back at the same place. The invariants: what the marks tell of the rows left
+-- is what they told at first of all k; and the conditions passed have asked, and nothing else was marked.
+use Rattle.std.proofs.Common.{ℕ, ◌≡◌, Bool, false, ◌+◌, ◌-◌, ◌*◌, ◌<◌, ◌≤◌, length, get_or}
+use Rattle.table.specs.Entries.{without_rights}
+use Rattle.rests.specs.Asked.{HasAsked, AskedThrough, Grown}
+use Rattle.query.specs.Reached.{Tells}
+use Rattle.query.proofs.+certificates_reach_roles_reach.Given as goal
+
+abbrev pub decreases-certificates_reach : goal.decreases-certificates_reach
+decreases-certificates_reach l = l.k * 2 + 1
+
+abbrev pub decreases-roles_reach : goal.decreases-roles_reach
+decreases-roles_reach l = l.k * 2
+
+abbrev pub invariant-certificates_reach-loop-i : goal.invariant-certificates_reach-loop-i
+invariant-certificates_reach-loop-i l = (l.i ≤ l.m) × Grown l.kinds l.initial.asked l.asked l.conditions l.i × ((j : ℕ) → j < l.i → HasAsked l.kinds l.asked (get_or l.conditions j 0))
+
+abbrev pub decreases-certificates_reach-loop-i : goal.decreases-certificates_reach-loop-i
+decreases-certificates_reach-loop-i l = l.m - l.i
+
+abbrev pub invariant-roles_reach-loop-i : goal.invariant-roles_reach-loop-i
+invariant-roles_reach-loop-i l =
+    (l.i ≤ l.k) × (length l.asked ≡ 384) × AskedThrough l.kinds l.asked
+    × ((r : Bool) → Tells (without_rights l.rules l.kinds) l.having l.state l.user l.asked l.i false r
+        → Tells (without_rights l.rules l.kinds) l.having l.state l.user l.initial.asked l.k false r)
+
+abbrev pub decreases-roles_reach-loop-i : goal.decreases-roles_reach-loop-i
+decreases-roles_reach-loop-i l = l.i
