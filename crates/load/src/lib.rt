@@ -12,7 +12,7 @@ use model::{KIND_WIDTH, MOST_KINDS, MOST_RIGHTS, MOST_RULES, RIGHT_WIDTH, RULE_W
 use program::{KIND_WORD, Line, RIGHT_WORD, RULE_WORD};
 
 // How many rows each table has so far.
-#[derive(Drop)]
+#[derive(Clone, Copy)]
 pub struct Counts {
     pub rules: usize,
     pub kinds: usize,

@@ -36,7 +36,7 @@ pub const DIGIT_ZERO: u8 = 48;
 
 // A record of the program, read: its word by the word's number, how many numbers follow, and these, those past the count being 0.
 // A record that is none of the vocabulary's has the number past the last word, and zeros.
-#[derive(Drop)]
+#[derive(Clone, Copy)]
 pub struct Line {
     pub word: u16,
     pub count: u16,

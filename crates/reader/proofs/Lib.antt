@@ -1,4 +1,1 @@
 pub mod Walking
-mod Held
-mod Passing
-mod Opening

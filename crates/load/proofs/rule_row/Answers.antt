@@ -1,0 +1,6 @@
+use Rattle.load.proofs.Appending.{rule-row}
+use borrow.Author.Rules.{rules}
+use Rattle.load.proofs.rule_row.Goals as goal
+
+pub returns : goal.returns
+returns c = rule-row c.args.line (search rules)
