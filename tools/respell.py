@@ -25,7 +25,11 @@ CODE = "`[^`]*`"
 
 
 # What an import gives another name, as `fresh as freshCall`.
-ALIAS = re.compile(r"\b([a-z]+)Call\b")
+ALIAS = re.compile(r"\b([a-z]+)(Call|Line)\b")
+
+
+def turn_alias(text):
+    return ALIAS.sub(lambda m: f"{m.group(1)}_{m.group(2).lower()}", text)
 
 
 def camel(name):
@@ -112,7 +116,7 @@ def turn_comment(text, to):
 
 def turn_lines(text, to, mark):
     lines = []
-    for line in ALIAS.sub(r"\1_call", text).split("\n"):
+    for line in turn_alias(text).split("\n"):
         at = line.find(mark)
         at = len(line) if at < 0 else at
         lines.append(turn(line[:at], to) + turn_comment(line[at:], to))
@@ -128,7 +132,7 @@ def turn_source(text, to):
             lines.append(turn(line, to))
         else:
             lines.append(NAME.sub(lambda m: camels.get(m.group(0), m.group(0)), line))
-    return ALIAS.sub(r"\1_call", "\n".join(lines))
+    return turn_alias("\n".join(lines))
 
 
 # ── the texts of edits ──
@@ -172,7 +176,7 @@ def turn_edit(text, to):
             for a, b in [("lib.ListN.", "Rattle.std.specs.Prelude."), ("lib.Dec.", "Rattle.std.specs.Prelude."), ("getD", "get_or")]:
                 body = body.replace(a, b)
             body = NAME.sub(lambda m: camel(m.group(0)) if m.group(0)[0].islower() else m.group(0), turn(projections(body), to))
-        out.append(line[:5] + ALIAS.sub(r"\1_call", body))
+        out.append(line[:5] + turn_alias(body))
     return "\n".join(out)
 
 

@@ -5,7 +5,7 @@
 ghost use Rattle.std.specs.Prelude.{◌≡◌, ◌&&◌, ◌<◌, ◌≤◌, leb, length, drop};
 ghost use Rattle.program.specs.Text.{is_digit, unquoted};
 ghost use Rattle.program.specs.Vocabulary.{words, same, word_of, numbered};
-ghost use Rattle.program.specs.Lines.{unknown as unknownLine, line_from, line_of};
+ghost use Rattle.program.specs.Lines.{unknown as unknown_line, line_from, line_of};
 ghost use Rattle.text.specs.Places.{part, Within, at_crlf, record_end, field_end, said_behind, number_of, written_behind};
 
 use program::{
@@ -204,7 +204,7 @@ fn count_fits(word: u16, count: u16) -> bool
 }
 
 fn unknown() -> Line
-    ensures { result ≡ unknownLine }
+    ensures { result ≡ unknown_line }
 {
     Line {
         word: WORDS,
