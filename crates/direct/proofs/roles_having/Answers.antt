@@ -1,4 +1,3 @@
-use Prim.Native.Nat.{◌-◌}
 use mathlib.Core.Path.{refl}
 use Rattle.direct.proofs.Having.{said-none, said_all}
 use borrow.Author.Rules.{rules}

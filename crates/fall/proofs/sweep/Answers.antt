@@ -1,4 +1,3 @@
-use Prim.Native.Nat.{◌-◌}
 use native.Mathlib.Omega.{arith}
 use Rattle.fall.specs.Pass.{is_kept}
 use Rattle.fall.proofs.Swept.{swept_none, swept_more}

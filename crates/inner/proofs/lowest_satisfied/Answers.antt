@@ -1,4 +1,4 @@
-use Prim.Native.Nat.{ℕ, ◌/◌, ◌-◌}
+use Prim.Native.Nat.{ℕ, ◌/◌}
 use mathlib.Core.Path.{◌≡◌, sym, ap, ◌∙◌}
 use mathlib.Core.Bool.{Bool}
 use mathlib.Core.List.{List}
@@ -32,9 +32,9 @@ loop-i-preserved c = (
   search rules,
   any_next rule_from 11 (test c.args.rules.now c.args.kinds.now c.args.state.now c.args.own.now c.args.role) c.args.rules.now c.loop-i.i c.loop-i.invariant.1
       (elim c.if-rule-role.branch [
-        then-rule-role+else-rule_holds w ↦
+        | then-rule-role+else-rule_holds w ↦
             sym (rule_by (has c.args.own.now) c.args.rules.now c.args.kinds.now c.args.state.now c.args.role (rule_at c.args.rules.now c.loop-i.i) c.rule_at-rule.result w.rule_holds.result c.rule_at-rule.ensures (eq-eqb _ _ w.if-rule-role.true) w.rule_holds.ensures) ∙ w.if-rule_holds.false
-      | else-rule-role w ↦
+        | else-rule-role w ↦
             sym (another_by (has c.args.own.now) c.args.rules.now c.args.kinds.now c.args.state.now c.args.role (rule_at c.args.rules.now c.loop-i.i) c.rule_at-rule.result c.rule_at-rule.ensures (ne_eqb _ _ w.if-rule-role.false))
       ]),
 )

@@ -1,4 +1,3 @@
-use Prim.Native.Nat.{◌-◌}
 use mathlib.Core.Path.{sym, ◌∙◌}
 use Rattle.marks.specs.Marked.{has, role_marked}
 use Rattle.table.proofs.Entries.{all_miss}

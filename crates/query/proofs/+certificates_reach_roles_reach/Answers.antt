@@ -1,15 +1,11 @@
-use Prim.Native.Nat.{ℕ, ◌+◌, ◌-◌, ◌*◌, ◌≤◌, ◌<◌}
-use mathlib.Core.Path.{◌≡◌, refl, sym, ◌∙◌, subst⁻¹}
+use Prim.Native.Nat.{◌≤◌, ◌<◌}
+use mathlib.Core.Path.{◌≡◌, sym, ◌∙◌, subst⁻¹}
 use Rattle.model.specs.declared.Row.{Row}
-use mathlib.Core.Bool.{Bool, false}
 use native.Mathlib.Omega.{arith}
-use borrow.Author.Tests.{not-true, not-false}
 use borrow.Author.Rules.{rules}
-use lib.ListN.{length, get_or}
+use lib.ListN.{length}
 use Rattle.table.specs.Entries.{without_rights}
-use Rattle.rests.specs.Asked.{HasAsked, AskedThrough, Grown}
-use Rattle.rests.proofs.Marking.{grown-none, grown-next, each_next, grown-within, each_within}
-use Rattle.query.specs.Reached.{Tells}
+use Rattle.rests.proofs.Marking.{grown-within, each_within}
 use Rattle.query.proofs.Reaching.{tell_none, tell_other, tell_own, tell_row, tell_part, tell_all, tell_down}
 use Rattle.query.proofs.+certificates_reach_roles_reach.Goals as goal
 

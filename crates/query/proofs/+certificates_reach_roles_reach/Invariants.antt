@@ -23,7 +23,7 @@ abbrev pub invariant-roles_reach-loop-i : goal.invariant-roles_reach-loop-i
 invariant-roles_reach-loop-i l =
     (l.i ≤ l.k) × (length l.asked ≡ 384) × AskedThrough l.kinds l.asked
     × ((r : Bool) → Tells (without_rights l.rules l.kinds) l.having l.state l.user l.asked l.i false r
-        → Tells (without_rights l.rules l.kinds) l.having l.state l.user l.initial.asked l.k false r)
+    → Tells (without_rights l.rules l.kinds) l.having l.state l.user l.initial.asked l.k false r)
 
 abbrev pub decreases-roles_reach-loop-i : goal.decreases-roles_reach-loop-i
 decreases-roles_reach-loop-i l = l.i

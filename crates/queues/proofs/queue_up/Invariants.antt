@@ -1,5 +1,4 @@
 -- The invariant: the entries from i on are queued.
-use Prim.Native.Nat.{◌-◌}
 use Rattle.queues.proofs.Linking.{Queueing}
 use Rattle.queues.proofs.queue_up.Given as goal
 

@@ -21,7 +21,7 @@ returns-then-certificate-ge-USERS-clause-answer c = fails_at (certificate_clause
 pub returns-then-certificate-kinds-clause-answer : goal.returns-then-certificate-kinds-clause-answer
 unfolding certificate_clauses policy_of
 returns-then-certificate-kinds-clause-answer c = fails_at (certificate_clauses (kinds_only c.args.kinds.now) (first_certificates c.args.state.now c.args.i)) c.certificate_at-certificate.ensures
-      (later (here (ap (ltb c.certificate_at-certificate.result.kind) (length-entries kind_from 7 c.args.kinds.now (length c.args.kinds.now / 7)) ∙ le-ltb c.certificate_at-certificate.result.kind (length c.args.kinds.now / 7) (omega arith))))
+    (later (here (ap (ltb c.certificate_at-certificate.result.kind) (length-entries kind_from 7 c.args.kinds.now (length c.args.kinds.now / 7)) ∙ le-ltb c.certificate_at-certificate.result.kind (length c.args.kinds.now / 7) (omega arith))))
 
 pub returns-then-certificate-ge-USERS-2-clause-answer : goal.returns-then-certificate-ge-USERS-2-clause-answer
 unfolding certificate_clauses
@@ -34,9 +34,9 @@ returns-then-stands_already-clause-answer c = fails_at (certificate_clauses (kin
 pub returns-clause-answer : goal.returns-clause-answer
 unfolding certificate_clauses policy_of
 returns-clause-answer c = passes_at (certificate_clauses (kinds_only c.args.kinds.now) (first_certificates c.args.state.now c.args.i)) c.certificate_at-certificate.ensures (
-    lt-ltb _ _ c.if-certificate-ge-USERS.false,
-    (
-      ap (ltb c.certificate_at-certificate.result.kind) (length-entries kind_from 7 c.args.kinds.now (length c.args.kinds.now / 7)) ∙ lt-ltb _ _ c.if-certificate-kinds.false,
-      (lt-ltb _ _ c.if-certificate-ge-USERS-2.false, (ap not (ap (λ (x : Certificate). any (same_certificate x) (first_certificates c.args.state.now c.args.i)) c.certificate_at-certificate.ensures ∙ sym c.stands_already.ensures.answer ∙ c.if-stands_already.false), tt)),
-    ),
-  )
+  lt-ltb _ _ c.if-certificate-ge-USERS.false,
+  (
+    ap (ltb c.certificate_at-certificate.result.kind) (length-entries kind_from 7 c.args.kinds.now (length c.args.kinds.now / 7)) ∙ lt-ltb _ _ c.if-certificate-kinds.false,
+    (lt-ltb _ _ c.if-certificate-ge-USERS-2.false, (ap not (ap (λ (x : Certificate). any (same_certificate x) (first_certificates c.args.state.now c.args.i)) c.certificate_at-certificate.ensures ∙ sym c.stands_already.ensures.answer ∙ c.if-stands_already.false), tt)),
+  ),
+)

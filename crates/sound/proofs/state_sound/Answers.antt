@@ -10,7 +10,6 @@ use Rattle.table.proofs.Entries.{sized}
 use Rattle.table.proofs.Clauses.{here, later, fails, passes}
 use Rattle.sound.proofs.Ranges.{certificates_range, few-kinds}
 use Rattle.sound.proofs.Unread.{certificates-same}
-use borrow.Author.Rules.{rules}
 use Rattle.sound.proofs.state_sound.Goals as goal
 
 module _ (rules kinds s : List ℕ) where

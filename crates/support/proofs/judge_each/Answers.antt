@@ -1,4 +1,3 @@
-use Prim.Native.Nat.{◌-◌}
 use Rattle.support.proofs.Walking.{judged_none}
 use Rattle.support.proofs.judge_each.Goals as goal
 

@@ -1,4 +1,4 @@
-use Prim.Native.Nat.{◌-◌, ◌<◌}
+use Prim.Native.Nat.{◌<◌}
 use mathlib.Core.Path.{ap}
 use native.Mathlib.Omega.{arith}
 use Rattle.model.specs.Layout.{row_count}
@@ -16,9 +16,9 @@ judge_row-requires c = let l : c.loop-k.k < row_count c.args.state.now = omega (
 pub loop-k-preserved : goal.loop-k-preserved
 loop-k-preserved c = let l : c.loop-k.k < row_count c.args.state.now = omega (arith, c.wide-n.ensures) in
     elim c.if-row-user.branch [
-      then-row-user w ↦ walk_read w.own-is w.verdicts-is c.wide-k.ensures
+      | then-row-user w ↦ walk_read w.own-is w.verdicts-is c.wide-k.ensures
           (walk_on c.requires.0 c.loop-k.invariant l c.row_at-row.ensures c.requires.2 w.if-row-user.true w.judge_row.ensures.entered w.judge_row.result w.judge_row.ensures.said)
-    | else-row-user w ↦ walk_read w.own-is w.verdicts-is c.wide-k.ensures
+      | else-row-user w ↦ walk_read w.own-is w.verdicts-is c.wide-k.ensures
           (walk_past c.requires.0 c.loop-k.invariant l c.row_at-row.ensures c.requires.2 w.if-row-user.false)
     ]
 
