@@ -23,7 +23,7 @@ fn folder_in(variable: &str) -> Option<PathBuf> {
 fn main() {
     println!("cargo:rerun-if-changed=build.rs");
     println!("cargo:rustc-check-cfg=cfg(before)");
-    let made = Path::new(env!("CARGO_MANIFEST_DIR")).join("../target/staticlib");
+    let made = Path::new(env!("CARGO_MANIFEST_DIR")).join("../crates/within/out");
     link("within", &folder_in("WITHIN_LIB").unwrap_or(made));
     if let Some(folder) = folder_in("BEFORE_LIB") {
         link("before", &folder);

@@ -1,6 +1,5 @@
 // "A reader walks the lent text record by record, holding the text and its place". The work is done on a slice and a number, and the
-// functions over the struct are thin, since each is proved by a walk of its code. A caller of `line_from` and `next_from`, whose
-// parameters are plain, needs no such walk.
+// functions over the struct are thin. `line_from` and `next_from` have plain parameters, for every other caller.
 
 #![tactic(auto)]
 
