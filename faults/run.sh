@@ -289,7 +289,7 @@ a build that only they catch counts as not caught.
 \`faults/run.sh --table\` writes this page, which took $((SECONDS / 60)) minutes beside other work.
 
 One change is not in the list, because no answer shows it: a chain query that does not test for a role written twice. In a sound state
-a chain never comes back to a role (\`never-twice\` in \`crates/query/proofs/Chaining.antt\`). A test of \`second/src/chain.rs\` has it.
+a chain never comes back to a role (\`never_twice\` in \`crates/query/proofs/Chaining.antt\`). A test of \`second/src/chain.rs\` has it.
 END
     for i in "${!names[@]}"; do
         if [ "${groups[i]}" != "$group" ]; then

@@ -11,7 +11,7 @@ use model::Answer;
 
 // `struct adobethrum_answer` of the header.
 #[repr(C)]
-#[derive(Drop)]
+#[derive(Clone, Copy)]
 pub struct Reply {
     pub code: u16,
     pub second: u16,

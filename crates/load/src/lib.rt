@@ -122,7 +122,7 @@ fn take_row(
 }
 
 // Where the policy ends, and what it has come to.
-#[derive(Drop)]
+#[derive(Clone, Copy)]
 pub struct Loaded {
     pub at: usize,
     pub taken: usize,

@@ -8,7 +8,7 @@ ghost use Rattle.reader.specs.Reading.{record_at, first_field_at, line_at, next_
 
 use program::Line;
 
-#[derive(Drop)]
+#[derive(Clone, Copy)]
 pub struct Reader<'a> {
     pub text: &'a [u8],
     pub at: usize,

@@ -14,7 +14,7 @@ ghost use Rattle.rests.specs.Asked.{asked_marks, AskedThrough, Known, ConditionA
 use model::{FIRST_FACT, FIRST_KIND, MOST_CONDITIONS, MOST_PREREQUISITES, ROLES, Row};
 
 // The roles that a condition asks for: the first `count` of four.
-#[derive(Drop)]
+#[derive(Clone, Copy)]
 pub struct RolesAsked {
     pub count: usize,
     pub roles: [u16; 4],
@@ -44,7 +44,7 @@ pub fn roles_asked(kinds: &[u16], condition: u16) -> RolesAsked
 }
 
 // The membership conditions of the row's own rule: the first `count` of eight.
-#[derive(Drop)]
+#[derive(Clone, Copy)]
 pub struct Membership {
     pub count: usize,
     pub conditions: [u16; 8],

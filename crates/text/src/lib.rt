@@ -27,7 +27,7 @@ const LEAST: [u16; WORDS as usize] = [2, 2, 2, 2, 3, 4, 3, 2, 1, 2, 3];
 const GREATEST: [u16; WORDS as usize] = [10, 6, 2, 2, 3, 4, 3, 2, 1, 2, 3];
 
 // The number of a field, or that it is none.
-#[derive(Drop)]
+#[derive(Clone, Copy)]
 enum Number {
     Value(u16),
     Not,

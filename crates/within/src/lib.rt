@@ -13,7 +13,7 @@ ghost use Rattle.inner.specs.Promise.{lent};
 use model::Answer;
 
 #[repr(C)]
-#[derive(Drop)]
+#[derive(Clone, Copy)]
 pub struct Reply {
     pub code: u16,
     pub second: u16,
