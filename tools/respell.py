@@ -203,8 +203,6 @@ def main():
     for f in [f"{root}/README.md"] + glob.glob(f"{root}/docs/*.md"):
         if os.path.basename(f) != "PORT.md":
             rewrite(f, lambda t: re.sub(CODE, lambda m: turn(m.group(0), to | PORTED), t))
-    with open("/tmp/respelled.txt", "w", encoding="utf-8") as f:
-        f.write("".join(f"{a} {b}\n" for a, b in sorted(to.items())))
     print(f"respell: {len(to)} names")
 
 
