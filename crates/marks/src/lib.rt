@@ -13,8 +13,8 @@ ghost use Rattle.marks.specs.Marked.{own_marks, has, role_marked, holds_by, all_
 ghost use Rattle.marks.specs.Owned.{InRange, Own};
 
 use model::{
-    CERTIFICATE_COUNT_AT, FACTS_END, FIRST_FACT, FIRST_KIND, FIRST_MALFORMED, MOST_CONDITIONS,
-    MOST_PREREQUISITES, ROLES, ROW_COUNT_AT, Row, Rule,
+    CERTIFICATE_COUNT_AT, FACTS_END, FIRST_FACT, FIRST_KIND, FIRST_MALFORMED, Lent,
+    MOST_CONDITIONS, MOST_PREREQUISITES, ROLES, ROW_COUNT_AT, Row, Rule,
 };
 
 // How many marks a user has, and from which on they are kinds.
@@ -38,14 +38,7 @@ fn all_marked(own: &[bool], roles: [u16; 4], n: usize) -> bool
     requires { (length own.now ≡ own_marks) × (n ≤ 4) }
     ensures { result ≡ all (role_marked (has own.now)) (take n roles) }
 {
-    let mut j: usize = 0;
-    while j < n {
-        if !role_marked(own, roles[j]) {
-            return false;
-        }
-        j += 1;
-    }
-    true
+    roles[..n].iter().all(|role| role_marked(own, *role))
 }
 
 // A certificate of the kind stands, and the kind's prerequisite roles are marked.
@@ -113,14 +106,14 @@ fn all_conditions_hold(
 }
 
 // The membership conditions of the row's own rule hold by its user's own marks.
-pub fn row_supported(rules: &[u16], kinds: &[u16], state: &[u16], own: &[bool], row: Row) -> bool
+pub fn row_supported(policy: Lent, state: &[u16], own: &[bool], row: Row) -> bool
     requires { Sized state.now × (length own.now ≡ own_marks) }
-    ensures { result ≡ supported_by (has own.now) (world_at rules.now kinds.now state.now) row }
+    ensures { result ≡ supported_by (has own.now) (world_at policy.entry.rules.now policy.entry.kinds.now state.now) row }
 {
-    let rule = table::rule_numbered(rules, table::wide(row.rule));
+    let rule = table::rule_numbered(policy.rules, table::wide(row.rule));
     let conditions = rule.conditions;
     let n = table::least(table::wide(rule.m), MOST_CONDITIONS);
-    all_conditions_hold(kinds, state, own, conditions, n)
+    all_conditions_hold(policy.kinds, state, own, conditions, n)
 }
 
 // The rule's conditions all hold by the marks.

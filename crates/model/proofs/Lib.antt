@@ -13,3 +13,4 @@ pub mod Grants
 pub mod Taken
 pub mod Orders
 pub mod Counts
+pub mod Chains

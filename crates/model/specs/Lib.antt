@@ -8,6 +8,7 @@ pub mod Sound
 pub mod Effective
 pub mod Chain
 pub mod Outcome
+pub mod Answered
 pub mod Calls
 pub mod Withdrawals
 pub mod Held

@@ -2,6 +2,9 @@
 
 #![tactic(auto)]
 
+ghost use Rattle.std.specs.Prelude.{◌≡◌};
+ghost use Rattle.model.specs.Answered.{code_of};
+
 // "Users 0 to 4,095; roles 0 to 255; privileges 0 to 1,023; environment facts 0 to 63."
 pub const USERS: u16 = 4096;
 
@@ -60,29 +63,6 @@ pub const CERTIFICATE_COUNT_AT: usize = 833;
 
 pub const CERTIFICATES_AT: usize = 834;
 
-// The codes that refuse; "Code 0 is acceptance." Code gives no 11: on sound tables no role would be written twice.
-pub const MALFORMED_POLICY: u16 = 1;
-
-pub const UNSOUND_STATE: u16 = 2;
-
-pub const OUT_OF_RANGE: u16 = 3;
-
-pub const ALREADY_ACTIVE: u16 = 4;
-
-pub const NO_RULE_SATISFIED: u16 = 5;
-
-pub const TABLE_FULL: u16 = 6;
-
-pub const NOT_IN_APPOINTER_ROLE: u16 = 7;
-
-pub const STANDS_ALREADY: u16 = 8;
-
-pub const NO_SUCH_CERTIFICATE: u16 = 9;
-
-pub const MAY_NOT_REVOKE: u16 = 10;
-
-pub const NOT_ACTIVE: u16 = 12;
-
 // A row of the rules: "target role, n, m, then eight conditions".
 #[derive(Clone, Copy)]
 pub struct Rule {
@@ -124,9 +104,49 @@ pub struct Certificate {
     pub appointer: u16,
 }
 
-// "Each answers a code and a second number." What they are is said of a call's outcome, in specs/Outcome.antt.
+// The policy's tables, as a caller lends them: "All tables are lent 16-bit numbers."
 #[derive(Clone, Copy)]
-pub struct Answer {
-    pub code: u16,
-    pub second: u16,
+pub struct Lent<'a> {
+    pub rules: &'a [u16],
+    pub kinds: &'a [u16],
+    pub rights: &'a [u16],
 }
+
+// Why a call is refused. None has the code 11: on sound tables no role would be written twice.
+#[derive(Clone, Copy, Debug, PartialEq, Eq)]
+pub enum Reason {
+    MalformedPolicy,
+    UnsoundState,
+    OutOfRange,
+    AlreadyActive,
+    NoRuleSatisfied,
+    TableFull,
+    NotInAppointerRole,
+    StandsAlready,
+    NoSuchCertificate,
+    MayNotRevoke,
+    NotActive,
+}
+
+impl From<Reason> for u16 {
+    ghost from_gives = { λ reason code. code ≡ code_of reason };
+
+    fn from(reason: Reason) -> u16 {
+        match reason {
+            Reason::MalformedPolicy => 1,
+            Reason::UnsoundState => 2,
+            Reason::OutOfRange => 3,
+            Reason::AlreadyActive => 4,
+            Reason::NoRuleSatisfied => 5,
+            Reason::TableFull => 6,
+            Reason::NotInAppointerRole => 7,
+            Reason::StandsAlready => 8,
+            Reason::NoSuchCertificate => 9,
+            Reason::MayNotRevoke => 10,
+            Reason::NotActive => 12,
+        }
+    }
+}
+
+// What a call answers: accepted, its second number; refused, why.
+pub type Answer = Result<u16, Reason>;

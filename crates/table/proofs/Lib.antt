@@ -4,3 +4,4 @@ pub mod Writes
 pub mod Zeros
 pub mod Form
 pub mod Clauses
+pub mod Passes

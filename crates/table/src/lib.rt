@@ -167,14 +167,7 @@ pub fn is_active(state: &[u16], k: usize, user: u16, role: u16) -> bool
     requires { (length state.now ≡ state_size) × (k ≤ most_rows) }
     ensures { result ≡ active (first_rows state.now k) user role }
 {
-    let mut j: usize = 0;
-    while j < k {
-        if row_is(row_at(state, j), user, role) {
-            return true;
-        }
-        j += 1;
-    }
-    false
+    (0..k).any(|j| row_is(row_at(state, j), user, role))
 }
 
 // The numbers from a place on, as many as are asked for, are zero. They are joined and looked at once, so that the loop has no way out

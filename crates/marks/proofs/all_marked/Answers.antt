@@ -1,8 +1,9 @@
-use mathlib.Core.Path.{sym, ◌∙◌}
+use Rattle.std.proofs.Common.{rules, take}
+use borrow.Author.Tests.{tests}
+use Rattle.std.proofs.lemmas.Iterator.{YieldsList-from_slice}
 use Rattle.marks.specs.Marked.{has, role_marked}
-use Rattle.table.proofs.Entries.{all_miss}
-use borrow.Author.Rules.{rules}
+use Rattle.model.proofs.Chains.{all_of_chain}
 use Rattle.marks.proofs.all_marked.Goals as goal
 
-pub returns-then-not-role_marked : goal.returns-then-not-role_marked
-returns-then-not-role_marked c = sym (all_miss (role_marked (has c.args.own.now)) c.args.roles 0 c.args.n c.loop-j.j c.loop-j-test.true (search rules) (sym c.role_marked.ensures ∙ c.if-not-role_marked.true))
+pub returns : goal.returns
+returns c = all_of_chain (role_marked (has c.args.own.now)) _ _ _ c.all.ensures.ran (YieldsList-from_slice (take c.args.n c.args.roles) cc) (λ x b q k. search (rules, tests))
