@@ -16,7 +16,10 @@ use Rattle.model.specs.Sound.{policy_clauses, sound_policy, well_formed, sound}
 use Rattle.model.specs.Outcome.{Course, judged_first}
 use Rattle.model.specs.Calls.{Call, has_row, course_of, answer}
 use Rattle.model.specs.Words.{Sound, FirstApplies, later}
-use Rattle.model.specs.declared.Answer.{Answer}
+use Rattle.model.specs.Answered.{code_of}
+use Rattle.model.specs.declared.Reason.{Reason}
+use Rattle.model.specs.declared.Reason.TheVariants.{MalformedPolicy, UnsoundState, OutOfRange, AlreadyActive, NoRuleSatisfied, TableFull, NotInAppointerRole, StandsAlready, NoSuchCertificate, MayNotRevoke, NotActive}
+use Rattle.std.proofs.Common.{Ok, Err}
 use Rattle.model.proofs.Numbers.{sound_formed}
 use Rattle.table.specs.Entries.{first_rows, Sized}
 use Rattle.table.proofs.Entries.{length-entries, sized}
@@ -55,19 +58,32 @@ found b e = not_not_of b (of_true b e)
 
 -- ── what is promised then ──
 
-module _ (t : Tables) (s list : List ℕ) (c : Call) (r : Answer) where
-  -- a refusal: the code, zero, and what was lent
-  pub refuses : (code : ℕ) → code ≢ 0 → (r.code ≡ code) × (r.second ≡ 0) → FirstApplies (course_of t s list c).refusals code → AnswersWith t s list c r s list
-  refuses code n a f =
-      let same : (answer t s list c).code ≡ code = answer-code t s list c ∙ sym (only-first f) in
-      let u = refused_unchanged t s list c (λ z. n (sym same ∙ z)) in
-      record { code_kept = a.0 ∙ sym same; second_kept = a.1 ∙ sym u.second_zero; state_kept = sym u.state_same; list_kept = sym u.list_same }
+not_accepted : (reason : Reason) → 0 < code_of reason
+not_accepted MalformedPolicy = omega arith
+not_accepted UnsoundState = omega arith
+not_accepted OutOfRange = omega arith
+not_accepted AlreadyActive = omega arith
+not_accepted NoRuleSatisfied = omega arith
+not_accepted TableFull = omega arith
+not_accepted NotInAppointerRole = omega arith
+not_accepted StandsAlready = omega arith
+not_accepted NoSuchCertificate = omega arith
+not_accepted MayNotRevoke = omega arith
+not_accepted NotActive = omega arith
+
+module _ (t : Tables) (s list : List ℕ) (c : Call) where
+  -- a refusal: the reason's code, zero, and what was lent
+  pub refuses : (reason : Reason) → FirstApplies (course_of t s list c).refusals (code_of reason) → AnswersWith t s list c (Err reason) s list
+  refuses reason f =
+      let same : (answer t s list c).code ≡ code_of reason = answer-code t s list c ∙ sym (only-first f) in
+      let u = refused_unchanged t s list c (λ z. let e : code_of reason ≡ 0 = sym same ∙ z in omega (arith, not_accepted reason)) in
+      record { code_kept = sym same; second_kept = sym u.second_zero; state_kept = sym u.state_same; list_kept = sym u.list_same }
 
   -- acceptance: the effect
-  pub accepts : (s' list' : List ℕ) → r.code ≡ 0 → FirstApplies (course_of t s list c).refusals 0 → r.second ≡ (course_of t s list c).effect.second → s' ≡ encode (course_of t s list c).effect.state → list' ≡ (course_of t s list c).effect.list → AnswersWith t s list c r s' list'
-  accepts s' list' z f a b l =
+  pub accepts : (n : ℕ) (s' list' : List ℕ) → FirstApplies (course_of t s list c).refusals 0 → n ≡ (course_of t s list c).effect.second → s' ≡ encode (course_of t s list c).effect.state → list' ≡ (course_of t s list c).effect.list → AnswersWith t s list c (Ok n) s' list'
+  accepts n s' list' f a b l =
       let d = accepted_done t s list c (answer-code t s list c ∙ sym (only-first f)) in
-      record { code_kept = z ∙ sym d.code_zero; second_kept = a ∙ sym d.second_told; state_kept = b ∙ sym d.state_left; list_kept = l ∙ sym d.list_left }
+      record { code_kept = sym d.code_zero; second_kept = a ∙ sym d.second_told; state_kept = b ∙ sym d.state_left; list_kept = l ∙ sym d.list_left }
 
 -- ── what sound tables are ──
 
@@ -123,9 +139,9 @@ module _ (t : Tables) (s list : List ℕ) (h : Sound t s) (c : Call) (course : C
   own : {n : ℕ} → FirstApplies course.refusals n → FirstApplies (course_of t s list c).refusals n
   own {n} f = subst⁻¹ (λ (x : Course). FirstApplies x.refusals n) is (own_decide t s h course f)
 
-  pub own_refuses : (r : Answer) (code : ℕ) → 0 < code → (r.code ≡ code) × (r.second ≡ 0) → FirstApplies course.refusals code → AnswersWith t s list c r s list
-  own_refuses r code n a f = refuses t s list c r code (omega arith) a (own f)
+  pub own_refuses : (reason : Reason) → FirstApplies course.refusals (code_of reason) → AnswersWith t s list c (Err reason) s list
+  own_refuses reason f = refuses t s list c reason (own f)
 
-  pub own_accepts : (r : Answer) (s' list' : List ℕ) → r.code ≡ 0 → FirstApplies course.refusals 0 → r.second ≡ course.effect.second → s' ≡ encode course.effect.state → list' ≡ course.effect.list → AnswersWith t s list c r s' list'
+  pub own_accepts : (n : ℕ) (s' list' : List ℕ) → FirstApplies course.refusals 0 → n ≡ course.effect.second → s' ≡ encode course.effect.state → list' ≡ course.effect.list → AnswersWith t s list c (Ok n) s' list'
   unfolding judged_first
-  own_accepts r s' list' z f a b l = accepts t s list c r s' list' z (own f) (a ∙ ap (λ (x : Course). x.effect.second) (sym is)) (b ∙ ap (λ (x : Course). encode x.effect.state) (sym is)) (l ∙ ap (λ (x : Course). x.effect.list) (sym is))
+  own_accepts n s' list' f a b l = accepts t s list c n s' list' (own f) (a ∙ ap (λ (x : Course). x.effect.second) (sym is)) (b ∙ ap (λ (x : Course). encode x.effect.state) (sym is)) (l ∙ ap (λ (x : Course). x.effect.list) (sym is))

@@ -1,4 +1,3 @@
-pub mod First
 pub mod Codes
 pub mod Clearing
 pub mod Activation

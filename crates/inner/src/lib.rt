@@ -3,64 +3,48 @@
 
 #![tactic(auto)]
 
-ghost use Rattle.std.specs.Prelude.{◌≡◌, [], length};
-ghost use Rattle.model.specs.Lists.{first_place};
-ghost use Rattle.model.specs.Limits.{state_size};
+ghost use Rattle.std.specs.Prelude.{◌≡◌, [], ◌/◌, ◌<◌, length, position};
+ghost use Rattle.model.specs.Limits.{state_size, rule_width};
 ghost use Rattle.model.specs.Layout.{decode, policy_of};
 ghost use Rattle.model.specs.Conditions.{active, kind_numbered};
 ghost use Rattle.model.specs.Sound.{same_certificate};
+ghost use Rattle.model.specs.Answered.{tables_of};
 ghost use Rattle.model.specs.Calls.{fresh as fresh_call, activate as activate_call, appoint as appoint_call};
 ghost use Rattle.model.specs.Words.{Sound};
-ghost use Rattle.table.specs.Entries.{world_at, without_rights, Sized};
+ghost use Rattle.table.specs.Entries.{rule_at, world_at, without_rights, Sized};
 ghost use Rattle.marks.specs.Marked.{own_marks, has, satisfied_by};
 ghost use Rattle.inner.specs.Promise.{lent, Answers};
 
 use model::{
-    ALREADY_ACTIVE, Answer, CERTIFICATE_COUNT_AT, Certificate, KIND_WIDTH, MOST_CERTIFICATES,
-    MOST_ROWS, NO_RULE_SATISFIED, NOT_IN_APPOINTER_ROLE, OUT_OF_RANGE, ROLES, ROW_COUNT_AT,
-    RULE_WIDTH, Row, STANDS_ALREADY, STATE_SIZE, TABLE_FULL, USERS,
+    Answer, CERTIFICATE_COUNT_AT, Certificate, KIND_WIDTH, Lent, MOST_CERTIFICATES, MOST_ROWS,
+    ROLES, ROW_COUNT_AT, RULE_WIDTH, Reason, Row, STATE_SIZE, USERS,
 };
 
-pub fn refused(code: u16) -> Answer
-    ensures { (result.code ≡ code) × (result.second ≡ 0) }
+// The rule is one for the role, and its conditions all hold by the marks. Most rules are for other roles, so a rule's target is asked
+// before anything else is made ready.
+fn is_satisfied(policy: Lent, state: &[u16], own: &[bool], role: u16, i: usize) -> bool
+    requires { Sized state.now × (length own.now ≡ own_marks) × (i < length policy.rules.now / rule_width) }
+    ensures { result ≡ satisfied_by (has own.now) (world_at policy.entry.rules.now policy.entry.kinds.now state.now) role (rule_at policy.entry.rules.now i) }
 {
-    Answer { code, second: 0 }
+    let rule = table::rule_at(policy.rules, i);
+    rule.target == role && marks::rule_holds(policy.kinds, state, own, rule)
 }
 
-// The lowest rule for the role whose conditions all hold by the marks, or the number of rules if there is none. Most rules are for
-// other roles, so a rule's target is asked before anything else is made ready.
-fn lowest_satisfied(rules: &[u16], kinds: &[u16], state: &[u16], own: &[bool], role: u16) -> usize
+// The lowest rule that is satisfied, of those for the role.
+fn lowest_satisfied(policy: Lent, state: &[u16], own: &[bool], role: u16) -> Option<usize>
     requires { Sized state.now × (length own.now ≡ own_marks) }
-    ensures { result ≡ first_place (satisfied_by (has own.now) (world_at rules.now kinds.now state.now) role) (policy_of (without_rights rules.now kinds.now)).rules }
+    ensures { result ≡ position (satisfied_by (has own.now) (world_at policy.entry.rules.now policy.entry.kinds.now state.now) role) (policy_of (without_rights policy.entry.rules.now policy.entry.kinds.now)).rules }
 {
-    let n = rules.len() / RULE_WIDTH;
-    let mut i: usize = 0;
-    while i < n {
-        let rule = table::rule_at(rules, i);
-        if rule.target == role {
-            if marks::rule_holds(kinds, state, own, rule) {
-                return i;
-            }
-        }
-        i += 1;
-    }
-    i
+    (0..policy.rules.len() / RULE_WIDTH).position(|i| is_satisfied(policy, state, own, role, i))
 }
 
-// Where the certificate stands, or the number of certificates if it does not.
-pub fn find_certificate(state: &[u16], certificate: Certificate) -> usize
+// Where the certificate stands.
+pub fn find_certificate(state: &[u16], certificate: Certificate) -> Option<usize>
     requires { Sized state.now }
-    ensures { result ≡ first_place (same_certificate certificate) (decode state.now).certificates }
+    ensures { result ≡ position (same_certificate certificate) (decode state.now).certificates }
 {
-    let n = table::wide(state[CERTIFICATE_COUNT_AT]);
-    let mut i: usize = 0;
-    while i < n {
-        if table::same_certificate(certificate, table::certificate_at(state, i)) {
-            return i;
-        }
-        i += 1;
-    }
-    i
+    let n = usize::from(state[CERTIFICATE_COUNT_AT]);
+    (0..n).position(|i| table::same_certificate(certificate, table::certificate_at(state, i)))
 }
 
 // All zeros, in a state of the right length.
@@ -69,47 +53,32 @@ pub fn fresh(state: &mut [u16]) -> Answer
     ensures { Answers (lent [] [] []) state.old fresh_call result state.new }
 {
     table::zero(state, 0, STATE_SIZE);
-    Answer { code: 0, second: 0 }
+    Ok(0)
 }
 
 // The marks of the user alone are made, once: they say whether he is active in the role, and which conditions hold for him.
-pub fn activate(
-    rules: &[u16],
-    kinds: &[u16],
-    rights: &[u16],
-    state: &mut [u16],
-    user: u16,
-    role: u16,
-) -> Answer
-    requires { Sound (lent rules.now kinds.now rights.now) state.old }
-    ensures { Answers (lent rules.now kinds.now rights.now) state.old (activate_call user role) result state.new }
+pub fn activate(policy: Lent, state: &mut [u16], user: u16, role: u16) -> Answer
+    requires { Sound (tables_of policy) state.old }
+    ensures { Answers (tables_of policy.entry) state.old (activate_call user role) result state.new }
 {
-    if USERS <= user {
-        return refused(OUT_OF_RANGE);
-    }
-    if ROLES <= role {
-        return refused(OUT_OF_RANGE);
+    if user >= USERS || role >= ROLES {
+        return Err(Reason::OutOfRange);
     }
     let mut own = [false; marks::OWN_MARKS];
     marks::mark_roles(state, user, &mut own);
     if marks::role_marked(&own, role) {
-        return refused(ALREADY_ACTIVE);
+        return Err(Reason::AlreadyActive);
     }
     marks::mark_kinds(state, user, &mut own);
-    let i = lowest_satisfied(rules, kinds, state, &own, role);
-    if rules.len() / RULE_WIDTH <= i {
-        return refused(NO_RULE_SATISFIED);
-    }
-    let k = table::wide(state[ROW_COUNT_AT]);
-    if MOST_ROWS <= k {
-        return refused(TABLE_FULL);
+    let Some(i) = lowest_satisfied(policy, state, &own, role) else {
+        return Err(Reason::NoRuleSatisfied);
+    };
+    if usize::from(state[ROW_COUNT_AT]) >= MOST_ROWS {
+        return Err(Reason::TableFull);
     }
     let rule = i as u16;
     change::append_row(state, Row { user, role, rule });
-    Answer {
-        code: 0,
-        second: rule,
-    }
+    Ok(rule)
 }
 
 // The user is active in the kind's appointer role.
@@ -117,47 +86,35 @@ fn is_appointer(kinds: &[u16], state: &[u16], user: u16, kind: u16) -> bool
     requires { Sized state.now }
     ensures { result ≡ active (decode state.now).rows user (kind_numbered (policy_of (without_rights [] kinds.now)) kind).appointer }
 {
-    let row = table::kind_numbered(kinds, table::wide(kind));
-    let k = table::wide(state[ROW_COUNT_AT]);
+    let row = table::kind_numbered(kinds, usize::from(kind));
+    let k = usize::from(state[ROW_COUNT_AT]);
     table::is_active(state, k, user, row.appointer)
 }
 
-pub fn appoint(
-    rules: &[u16],
-    kinds: &[u16],
-    rights: &[u16],
-    state: &mut [u16],
-    appointer: u16,
-    appointee: u16,
-    kind: u16,
-) -> Answer
-    requires { Sound (lent rules.now kinds.now rights.now) state.old }
-    ensures { Answers (lent rules.now kinds.now rights.now) state.old (appoint_call appointer appointee kind) result state.new }
+pub fn appoint(policy: Lent, state: &mut [u16], certificate: Certificate) -> Answer
+    requires { Sound (tables_of policy) state.old }
+    ensures { Answers (tables_of policy.entry) state.old (appoint_call certificate.appointer certificate.appointee certificate.kind) result state.new }
 {
-    if USERS <= appointer {
-        return refused(OUT_OF_RANGE);
-    }
-    if USERS <= appointee {
-        return refused(OUT_OF_RANGE);
-    }
-    if kinds.len() / KIND_WIDTH <= table::wide(kind) {
-        return refused(OUT_OF_RANGE);
-    }
-    if !is_appointer(kinds, state, appointer, kind) {
-        return refused(NOT_IN_APPOINTER_ROLE);
-    }
-    let certificate = Certificate {
+    let Certificate {
         appointee,
         kind,
         appointer,
-    };
-    let n = table::wide(state[CERTIFICATE_COUNT_AT]);
-    if find_certificate(state, certificate) < n {
-        return refused(STANDS_ALREADY);
+    } = certificate;
+    if appointer >= USERS
+        || appointee >= USERS
+        || usize::from(kind) >= policy.kinds.len() / KIND_WIDTH
+    {
+        return Err(Reason::OutOfRange);
     }
-    if MOST_CERTIFICATES <= n {
-        return refused(TABLE_FULL);
+    if !is_appointer(policy.kinds, state, appointer, kind) {
+        return Err(Reason::NotInAppointerRole);
+    }
+    if find_certificate(state, certificate).is_some() {
+        return Err(Reason::StandsAlready);
+    }
+    if usize::from(state[CERTIFICATE_COUNT_AT]) >= MOST_CERTIFICATES {
+        return Err(Reason::TableFull);
     }
     change::append_certificate(state, certificate);
-    Answer { code: 0, second: 0 }
+    Ok(0)
 }

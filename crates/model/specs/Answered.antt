@@ -20,11 +20,15 @@ code_of NoSuchCertificate = no_such_certificate
 code_of MayNotRevoke = may_not_revoke
 code_of NotActive = not_active
 
-abbrev pub code : Result ℕ Reason → ℕ
+-- what a call of code answers: accepted, its second number; refused, why
+abbrev pub Answer : Type 0
+Answer = Result ℕ Reason
+
+abbrev pub code : Answer → ℕ
 code (Ok n) = accepted
 code (Err reason) = code_of reason
 
-abbrev pub second : Result ℕ Reason → ℕ
+abbrev pub second : Answer → ℕ
 second (Ok n) = n
 second (Err reason) = 0
 

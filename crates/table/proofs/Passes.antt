@@ -4,8 +4,9 @@ use Rattle.std.proofs.iter.Yields.{nat_range_steps}
 use Rattle.std.proofs.lemmas.Iterator.{YieldsList-from_range}
 use Rattle.std.specs.Fn.{Called}
 use Rattle.std.specs.Iterator.{YieldsThen}
-use Rattle.std.specs.List.{range_with_len, FoldsTo}
+use Rattle.std.specs.List.{range_with_len, FoldsTo, position}
 use Rattle.std.specs.Option.{MatchOption}
+use Rattle.std.proofs.Common.{Some, None, length}
 use Rattle.std.specs.declared.option.Option.{Option}
 use Rattle.std.specs.declared.ops.Range.{Range}
 use denote.Param.Members.{Mut}
@@ -18,7 +19,7 @@ use native.Mathlib.Numerals.{add-one}
 use lib.ListN.{drop}
 use lib.Seq.{drop-drop}
 use Rattle.model.specs.Lists.{all, any}
-use Rattle.model.proofs.Chains.{all_of_chain, any_of_chain, all_map, any_map}
+use Rattle.model.proofs.Chains.{all_of_chain, any_of_chain, position_of_chain, all_map, any_map, position_map}
 use Rattle.table.specs.Entries.{entry, entries}
 
 module _ {A : Type 0} (from : List ℕ → A) (width : ℕ) (table : List ℕ) where
@@ -46,3 +47,9 @@ module _ {A : Type 0} (from : List ℕ → A) (width : ℕ) (table : List ℕ) w
         any_of_chain (λ (i : ℕ). test (entry from width table i)) u f r ran (YieldsList-from_range 0 n n numbers (omega arith)) calls
         ∙ any_map test (entry from width table) (range_with_len 0 n)
         ∙ ap (any test) (entries_by_number n)
+
+    pub place_of_entries : (test : A → Bool) (n : ℕ) (u : Range ℕ) (f : F) (r : Option ℕ) → (xs : List ℕ) × (o : Option ℕ) × (j : F) × YieldsThen nat_range_steps s xs o u × FoldsTo (λ p x q. Called g p (x, tt) false q) f xs j × MatchOption o (r ≡ None) (λ x. (r ≡ Some (length xs)) × ((h : F) × Called g j (x, tt) true h)) → s ≡ record { start = 0; end = n } → ((i : ℕ) (b : Bool) (q : F) → Called g f (i, tt) b q → (q ≡ f) × (b ≡ test (entry from width table i))) → r ≡ position test (entries from width table n)
+    place_of_entries test n u f r ran numbers calls =
+        position_of_chain (λ (i : ℕ). test (entry from width table i)) u f r ran (YieldsList-from_range 0 n n numbers (omega arith)) calls
+        ∙ position_map test (entry from width table) (range_with_len 0 n)
+        ∙ ap (position test) (entries_by_number n)

@@ -1,6 +1,5 @@
-use mathlib.Core.Path.{refl}
 use Rattle.inner.proofs.Clearing.{fresh-zeros}
 use Rattle.inner.proofs.fresh.Goals as goal
 
 pub returns : goal.returns
-returns c = fresh-zeros c.args.state.now _ _ (refl, refl) c.requires c.zero.ensures
+returns c = fresh-zeros c.args.state.now _ c.requires c.zero.ensures
