@@ -7,30 +7,13 @@ ghost use Rattle.model.specs.Outcome.{Keeps};
 ghost use Rattle.model.specs.Calls.{answer, fresh as fresh_call, activate as activate_call, appoint as appoint_call, revoke as revoke_call, withdraw as withdraw_call, environment as environment_call, logout as logout_call, invoke as invoke_call, effective as effective_call, chain as chain_call};
 ghost use Rattle.inner.specs.Promise.{lent};
 
-use model::Answer;
-
-// `struct adobethrum_answer` of the header.
-#[repr(C)]
-#[derive(Clone, Copy)]
-pub struct Reply {
-    pub code: u16,
-    pub second: u16,
-}
-
-fn reply_of(answer: Answer) -> Reply
-    ensures { (result.code ≡ answer.code) × (result.second ≡ answer.second) }
-{
-    Reply {
-        code: answer.code,
-        second: answer.second,
-    }
-}
+use model::{Certificate, Lent, Reply};
 
 #[unsafe(no_mangle)]
 pub extern "C" fn adobethrum_fresh(state: &mut [u16]) -> Reply
     ensures { Keeps (answer (lent [] [] []) state.old [] fresh_call) result.code result.second state.new [] }
 {
-    reply_of(calls::fresh(state))
+    calls::fresh(state).into()
 }
 
 #[unsafe(no_mangle)]
@@ -44,7 +27,12 @@ pub extern "C" fn adobethrum_activate(
 ) -> Reply
     ensures { Keeps (answer (lent rules.now kinds.now rights.now) state.old [] (activate_call user role)) result.code result.second state.new [] }
 {
-    reply_of(calls::activate(rules, kinds, rights, state, user, role))
+    let policy = Lent {
+        rules,
+        kinds,
+        rights,
+    };
+    calls::activate(policy, state, user, role).into()
 }
 
 #[unsafe(no_mangle)]
@@ -59,7 +47,17 @@ pub extern "C" fn adobethrum_appoint(
 ) -> Reply
     ensures { Keeps (answer (lent rules.now kinds.now rights.now) state.old [] (appoint_call appointer appointee kind)) result.code result.second state.new [] }
 {
-    reply_of(calls::appoint(rules, kinds, rights, state, appointer, appointee, kind))
+    let policy = Lent {
+        rules,
+        kinds,
+        rights,
+    };
+    let certificate = Certificate {
+        appointee,
+        kind,
+        appointer,
+    };
+    calls::appoint(policy, state, certificate).into()
 }
 
 #[unsafe(no_mangle)]
@@ -75,9 +73,17 @@ pub extern "C" fn adobethrum_revoke(
 ) -> Reply
     ensures { Keeps (answer (lent rules.now kinds.now rights.now) state.old [] (revoke_call caller appointee kind appointer)) result.code result.second state.new [] }
 {
-    reply_of(calls::revoke(
-        rules, kinds, rights, state, caller, appointee, kind, appointer,
-    ))
+    let policy = Lent {
+        rules,
+        kinds,
+        rights,
+    };
+    let certificate = Certificate {
+        appointee,
+        kind,
+        appointer,
+    };
+    calls::revoke(policy, state, caller, certificate).into()
 }
 
 #[unsafe(no_mangle)]
@@ -92,7 +98,17 @@ pub extern "C" fn adobethrum_withdraw(
 ) -> Reply
     ensures { Keeps (answer (lent rules.now kinds.now rights.now) state.old [] (withdraw_call appointee kind appointer)) result.code result.second state.new [] }
 {
-    reply_of(calls::withdraw(rules, kinds, rights, state, appointee, kind, appointer))
+    let policy = Lent {
+        rules,
+        kinds,
+        rights,
+    };
+    let certificate = Certificate {
+        appointee,
+        kind,
+        appointer,
+    };
+    calls::withdraw(policy, state, certificate).into()
 }
 
 #[unsafe(no_mangle)]
@@ -106,7 +122,12 @@ pub extern "C" fn adobethrum_environment(
 ) -> Reply
     ensures { Keeps (answer (lent rules.now kinds.now rights.now) state.old [] (environment_call fact value)) result.code result.second state.new [] }
 {
-    reply_of(calls::environment(rules, kinds, rights, state, fact, value))
+    let policy = Lent {
+        rules,
+        kinds,
+        rights,
+    };
+    calls::environment(policy, state, fact, value).into()
 }
 
 #[unsafe(no_mangle)]
@@ -119,7 +140,12 @@ pub extern "C" fn adobethrum_logout(
 ) -> Reply
     ensures { Keeps (answer (lent rules.now kinds.now rights.now) state.old [] (logout_call user)) result.code result.second state.new [] }
 {
-    reply_of(calls::logout(rules, kinds, rights, state, user))
+    let policy = Lent {
+        rules,
+        kinds,
+        rights,
+    };
+    calls::logout(policy, state, user).into()
 }
 
 #[unsafe(no_mangle)]
@@ -133,7 +159,12 @@ pub extern "C" fn adobethrum_invoke(
 ) -> Reply
     ensures { Keeps (answer (lent rules.now kinds.now rights.now) state.now [] (invoke_call user privilege)) result.code result.second state.now [] }
 {
-    reply_of(calls::invoke(rules, kinds, rights, state, user, privilege))
+    let policy = Lent {
+        rules,
+        kinds,
+        rights,
+    };
+    calls::invoke(policy, state, user, privilege).into()
 }
 
 #[unsafe(no_mangle)]
@@ -148,7 +179,12 @@ pub extern "C" fn adobethrum_effective(
 ) -> Reply
     ensures { Keeps (answer (lent rules.now kinds.now rights.now) state.now [] (effective_call user role privilege)) result.code result.second state.now [] }
 {
-    reply_of(calls::effective(rules, kinds, rights, state, user, role, privilege))
+    let policy = Lent {
+        rules,
+        kinds,
+        rights,
+    };
+    calls::effective(policy, state, user, role, privilege).into()
 }
 
 #[unsafe(no_mangle)]
@@ -163,5 +199,10 @@ pub extern "C" fn adobethrum_chain(
 ) -> Reply
     ensures { Keeps (answer (lent rules.now kinds.now rights.now) state.now list.old (chain_call user role)) result.code result.second state.now list.new }
 {
-    reply_of(calls::chain(rules, kinds, rights, state, user, role, list))
+    let policy = Lent {
+        rules,
+        kinds,
+        rights,
+    };
+    calls::chain(policy, state, user, role, list).into()
 }

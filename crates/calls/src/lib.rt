@@ -3,23 +3,24 @@
 #![tactic(auto)]
 
 ghost use Rattle.std.specs.Prelude.{◌≡◌, []};
+ghost use Rattle.model.specs.Answered.{code, tables_of};
 ghost use Rattle.model.specs.Calls.{fresh as fresh_call, activate as activate_call, appoint as appoint_call, revoke as revoke_call, withdraw as withdraw_call, environment as environment_call, logout as logout_call, invoke as invoke_call, effective as effective_call, chain as chain_call};
 ghost use Rattle.inner.specs.Promise.{lent, Answers, AnswersWith};
 ghost use Rattle.calls.specs.Judgement.{judgement};
 
-use model::{Answer, MALFORMED_POLICY, STATE_SIZE, UNSOUND_STATE};
+use model::{Answer, Certificate, Lent, Reason, STATE_SIZE};
 
-// The code that comes before every other, or 0 for sound tables.
-fn judge(rules: &[u16], kinds: &[u16], rights: &[u16], state: &[u16]) -> u16
-    ensures { result ≡ judgement (lent rules.now kinds.now rights.now) state.now }
+// The refusal that comes before every other, if policy or state are not sound.
+fn judge(policy: Lent, state: &[u16]) -> Result<(), Reason>
+    ensures { code result ≡ judgement (tables_of policy.entry) state.now }
 {
-    if !policy::policy_sound(rules, kinds, rights) {
-        return MALFORMED_POLICY;
+    if !policy::policy_sound(policy.rules, policy.kinds, policy.rights) {
+        return Err(Reason::MalformedPolicy);
     }
-    if !sound::state_sound(rules, kinds, state) {
-        return UNSOUND_STATE;
+    if !sound::state_sound(policy.rules, policy.kinds, state) {
+        return Err(Reason::UnsoundState);
     }
-    0
+    Ok(())
 }
 
 // All zeros. Only the length is judged, so that a spoilt state can be cleared.
@@ -27,161 +28,70 @@ pub fn fresh(state: &mut [u16]) -> Answer
     ensures { Answers (lent [] [] []) state.old fresh_call result state.new }
 {
     if state.len() != STATE_SIZE {
-        return inner::refused(UNSOUND_STATE);
+        return Err(Reason::UnsoundState);
     }
     inner::fresh(state)
 }
 
-pub fn activate(
-    rules: &[u16],
-    kinds: &[u16],
-    rights: &[u16],
-    state: &mut [u16],
-    user: u16,
-    role: u16,
-) -> Answer
-    ensures { Answers (lent rules.now kinds.now rights.now) state.old (activate_call user role) result state.new }
+pub fn activate(policy: Lent, state: &mut [u16], user: u16, role: u16) -> Answer
+    ensures { Answers (tables_of policy.entry) state.old (activate_call user role) result state.new }
 {
-    let code = judge(rules, kinds, rights, state);
-    if code != 0 {
-        return inner::refused(code);
-    }
-    inner::activate(rules, kinds, rights, state, user, role)
+    judge(policy, state)?;
+    inner::activate(policy, state, user, role)
 }
 
-pub fn appoint(
-    rules: &[u16],
-    kinds: &[u16],
-    rights: &[u16],
-    state: &mut [u16],
-    appointer: u16,
-    appointee: u16,
-    kind: u16,
-) -> Answer
-    ensures { Answers (lent rules.now kinds.now rights.now) state.old (appoint_call appointer appointee kind) result state.new }
+pub fn appoint(policy: Lent, state: &mut [u16], certificate: Certificate) -> Answer
+    ensures { Answers (tables_of policy.entry) state.old (appoint_call certificate.appointer certificate.appointee certificate.kind) result state.new }
 {
-    let code = judge(rules, kinds, rights, state);
-    if code != 0 {
-        return inner::refused(code);
-    }
-    inner::appoint(rules, kinds, rights, state, appointer, appointee, kind)
+    judge(policy, state)?;
+    inner::appoint(policy, state, certificate)
 }
 
-pub fn revoke(
-    rules: &[u16],
-    kinds: &[u16],
-    rights: &[u16],
-    state: &mut [u16],
-    caller: u16,
-    appointee: u16,
-    kind: u16,
-    appointer: u16,
-) -> Answer
-    ensures { Answers (lent rules.now kinds.now rights.now) state.old (revoke_call caller appointee kind appointer) result state.new }
+pub fn revoke(policy: Lent, state: &mut [u16], caller: u16, certificate: Certificate) -> Answer
+    ensures { Answers (tables_of policy.entry) state.old (revoke_call caller certificate.appointee certificate.kind certificate.appointer) result state.new }
 {
-    let code = judge(rules, kinds, rights, state);
-    if code != 0 {
-        return inner::refused(code);
-    }
-    taking::revoke(
-        rules, kinds, rights, state, caller, appointee, kind, appointer,
-    )
+    judge(policy, state)?;
+    taking::revoke(policy, state, caller, certificate)
 }
 
-pub fn withdraw(
-    rules: &[u16],
-    kinds: &[u16],
-    rights: &[u16],
-    state: &mut [u16],
-    appointee: u16,
-    kind: u16,
-    appointer: u16,
-) -> Answer
-    ensures { Answers (lent rules.now kinds.now rights.now) state.old (withdraw_call appointee kind appointer) result state.new }
+pub fn withdraw(policy: Lent, state: &mut [u16], certificate: Certificate) -> Answer
+    ensures { Answers (tables_of policy.entry) state.old (withdraw_call certificate.appointee certificate.kind certificate.appointer) result state.new }
 {
-    let code = judge(rules, kinds, rights, state);
-    if code != 0 {
-        return inner::refused(code);
-    }
-    taking::withdraw(rules, kinds, rights, state, appointee, kind, appointer)
+    judge(policy, state)?;
+    taking::withdraw(policy, state, certificate)
 }
 
-pub fn environment(
-    rules: &[u16],
-    kinds: &[u16],
-    rights: &[u16],
-    state: &mut [u16],
-    fact: u16,
-    value: u16,
-) -> Answer
-    ensures { Answers (lent rules.now kinds.now rights.now) state.old (environment_call fact value) result state.new }
+pub fn environment(policy: Lent, state: &mut [u16], fact: u16, value: u16) -> Answer
+    ensures { Answers (tables_of policy.entry) state.old (environment_call fact value) result state.new }
 {
-    let code = judge(rules, kinds, rights, state);
-    if code != 0 {
-        return inner::refused(code);
-    }
-    taking::environment(rules, kinds, rights, state, fact, value)
+    judge(policy, state)?;
+    taking::environment(policy, state, fact, value)
 }
 
-pub fn logout(rules: &[u16], kinds: &[u16], rights: &[u16], state: &mut [u16], user: u16) -> Answer
-    ensures { Answers (lent rules.now kinds.now rights.now) state.old (logout_call user) result state.new }
+pub fn logout(policy: Lent, state: &mut [u16], user: u16) -> Answer
+    ensures { Answers (tables_of policy.entry) state.old (logout_call user) result state.new }
 {
-    let code = judge(rules, kinds, rights, state);
-    if code != 0 {
-        return inner::refused(code);
-    }
-    taking::logout(rules, kinds, rights, state, user)
+    judge(policy, state)?;
+    taking::logout(policy, state, user)
 }
 
-pub fn invoke(
-    rules: &[u16],
-    kinds: &[u16],
-    rights: &[u16],
-    state: &[u16],
-    user: u16,
-    privilege: u16,
-) -> Answer
-    ensures { Answers (lent rules.now kinds.now rights.now) state.now (invoke_call user privilege) result state.now }
+pub fn invoke(policy: Lent, state: &[u16], user: u16, privilege: u16) -> Answer
+    ensures { Answers (tables_of policy.entry) state.now (invoke_call user privilege) result state.now }
 {
-    let code = judge(rules, kinds, rights, state);
-    if code != 0 {
-        return inner::refused(code);
-    }
-    query::invoke(rules, kinds, rights, state, user, privilege)
+    judge(policy, state)?;
+    query::invoke(policy, state, user, privilege)
 }
 
-pub fn effective(
-    rules: &[u16],
-    kinds: &[u16],
-    rights: &[u16],
-    state: &[u16],
-    user: u16,
-    role: u16,
-    privilege: u16,
-) -> Answer
-    ensures { Answers (lent rules.now kinds.now rights.now) state.now (effective_call user role privilege) result state.now }
+pub fn effective(policy: Lent, state: &[u16], user: u16, role: u16, privilege: u16) -> Answer
+    ensures { Answers (tables_of policy.entry) state.now (effective_call user role privilege) result state.now }
 {
-    let code = judge(rules, kinds, rights, state);
-    if code != 0 {
-        return inner::refused(code);
-    }
-    query::effective(rules, kinds, rights, state, user, role, privilege)
+    judge(policy, state)?;
+    query::effective(policy, state, user, role, privilege)
 }
 
-pub fn chain(
-    rules: &[u16],
-    kinds: &[u16],
-    rights: &[u16],
-    state: &[u16],
-    user: u16,
-    role: u16,
-    list: &mut [u16],
-) -> Answer
-    ensures { AnswersWith (lent rules.now kinds.now rights.now) state.now list.old (chain_call user role) result state.now list.new }
+pub fn chain(policy: Lent, state: &[u16], user: u16, role: u16, list: &mut [u16]) -> Answer
+    ensures { AnswersWith (tables_of policy.entry) state.now list.old (chain_call user role) result state.now list.new }
 {
-    let code = judge(rules, kinds, rights, state);
-    if code != 0 {
-        return inner::refused(code);
-    }
-    query::chain(rules, kinds, rights, state, user, role, list)
+    judge(policy, state)?;
+    query::chain(policy, state, user, role, list)
 }

@@ -58,7 +58,7 @@ found b e = not_not_of b (of_true b e)
 
 -- ── what is promised then ──
 
-not_accepted : (reason : Reason) → 0 < code_of reason
+pub not_accepted : (reason : Reason) → 0 < code_of reason
 not_accepted MalformedPolicy = omega arith
 not_accepted UnsoundState = omega arith
 not_accepted OutOfRange = omega arith

@@ -24,9 +24,10 @@ code_of NotActive = not_active
 abbrev pub Answer : Type 0
 Answer = Result ℕ Reason
 
-abbrev pub code : Answer → ℕ
-code (Ok n) = accepted
-code (Err reason) = code_of reason
+module _ {A : Type 0} where
+  abbrev pub code : Result A Reason → ℕ
+  code (Ok x) = accepted
+  code (Err reason) = code_of reason
 
 abbrev pub second : Answer → ℕ
 second (Ok n) = n

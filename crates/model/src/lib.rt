@@ -3,7 +3,7 @@
 #![tactic(auto)]
 
 ghost use Rattle.std.specs.Prelude.{◌≡◌};
-ghost use Rattle.model.specs.Answered.{code_of};
+ghost use Rattle.model.specs.Answered.{code_of, code, second};
 
 // "Users 0 to 4,095; roles 0 to 255; privileges 0 to 1,023; environment facts 0 to 63."
 pub const USERS: u16 = 4096;
@@ -150,3 +150,25 @@ impl From<Reason> for u16 {
 
 // What a call answers: accepted, its second number; refused, why.
 pub type Answer = Result<u16, Reason>;
+
+// `struct adobethrum_answer` of the header: an answer as C has it.
+#[repr(C)]
+#[derive(Clone, Copy)]
+pub struct Reply {
+    pub code: u16,
+    pub second: u16,
+}
+
+impl From<Answer> for Reply {
+    ghost from_gives = { λ answer reply. (reply.code ≡ code answer) × (reply.second ≡ second answer) };
+
+    fn from(answer: Answer) -> Reply {
+        match answer {
+            Ok(second) => Reply { code: 0, second },
+            Err(reason) => Reply {
+                code: reason.into(),
+                second: 0,
+            },
+        }
+    }
+}

@@ -7,7 +7,7 @@ use mathlib.Core.List.{List, [], ◌∷◌, ◌++◌}
 use native.Mathlib.Omega.{arith}
 use lib.Dec.{T, eqb, lt→ltb}
 use lib.ListN.{length, get_or, take, set, length-take}
-use borrow.Author.Tests.{eq-eqb}
+use borrow.Author.Tests.{eq-eqb, ne_eqb, le-ltb}
 use Rattle.model.specs.Lists.{every, filled_to}
 use Rattle.model.specs.Limits.{list_size}
 use Rattle.model.specs.Layout.{policy_of, decode, row_count}
@@ -16,14 +16,15 @@ use Rattle.model.specs.Chain.{written, some_twice}
 use Rattle.model.specs.Outcome.{judged_first, given}
 use Rattle.model.specs.Calls.{chain, is_user, is_role, chain_on, course_of}
 use Rattle.model.specs.Words.{Sound, none, here, later}
-use Rattle.model.specs.declared.Answer.{Answer}
+use Rattle.std.proofs.Common.{Ok, Err}
+use Rattle.model.specs.declared.Reason.TheVariants.{OutOfRange, NotActive}
 use Rattle.model.specs.declared.Row.{Row}
 use Rattle.model.proofs.Tests.{of_true, of_false}
 use Rattle.model.proofs.Numbers.{encode-decode, sound_formed}
 use Rattle.table.specs.Entries.{row_at, first_rows, without_rights}
 use Rattle.table.specs.Writes.{Zeroed}
 use Rattle.inner.specs.Promise.{lent, AnswersWith}
-use Rattle.inner.proofs.Codes.{own_refuses, own_accepts, in_range, found, active_now}
+use Rattle.inner.proofs.Codes.{own_refuses, own_accepts, out_of_range_lem, in_range, found, active_now}
 use Rattle.rests.specs.Newest.{newest}
 use Rattle.rests.proofs.Newest.{newest-active}
 use Rattle.rests.proofs.Stepping.{rests_same}
@@ -38,26 +39,35 @@ module _ (rules kinds rights s list : List ℕ) (h : Sound (lent rules kinds rig
   unfolding course_of
   chain_is = refl
 
-  pub chain-out : (r : Answer) → (r.code ≡ 3) × (r.second ≡ 0) → T (not (every (is_user u ∷ is_role q ∷ eqb (length list) list_size ∷ []))) → AnswersWith (lent rules kinds rights) s list (chain u q) r s list
+  out : (i : ℕ) → get_or (is_user u ∷ is_role q ∷ eqb (length list) list_size ∷ []) i true ≡ false → AnswersWith (lent rules kinds rights) s list (chain u q) (Err OutOfRange) s list
   unfolding chain_on
-  chain-out r z o = own_refuses (lent rules kinds rights) s list h (chain u q) _ chain_is r 3 (omega arith) z (here o)
+  out i e = own_refuses (lent rules kinds rights) s list h (chain u q) _ chain_is OutOfRange (here (out_of_range_lem (is_user u ∷ is_role q ∷ eqb (length list) list_size ∷ []) i e))
+
+  pub chain-no-user : 4096 ≤ u → AnswersWith (lent rules kinds rights) s list (chain u q) (Err OutOfRange) s list
+  chain-no-user l = out 0 (le-ltb u 4096 l)
+
+  pub chain-no-role : 256 ≤ q → AnswersWith (lent rules kinds rights) s list (chain u q) (Err OutOfRange) s list
+  chain-no-role l = out 1 (le-ltb q 256 l)
+
+  pub chain-no-list : length list ≢ 256 → AnswersWith (lent rules kinds rights) s list (chain u q) (Err OutOfRange) s list
+  chain-no-list n = out 2 (ne_eqb (length list) 256 n)
 
   module _ (in₁ : u < 4096) (in₂ : q < 256) (in₃ : length list ≡ 256) (k : ℕ) (all : k ≡ row_count s) where
     ranges : T (not (not (every (is_user u ∷ is_role q ∷ eqb (length list) list_size ∷ []))))
     ranges = in_range (is_user u ∷ is_role q ∷ eqb (length list) list_size ∷ []) (lt→ltb u 4096 in₁, (lt→ltb q 256 in₂, (of_true (eqb (length list) 256) (eq-eqb (length list) 256 in₃), tt)))
 
-    pub chain_inactive : (r : Answer) → (r.code ≡ 12) × (r.second ≡ 0) → active (first_rows s k) u q ≡ false → AnswersWith (lent rules kinds rights) s list (chain u q) r s list
+    pub chain_inactive : active (first_rows s k) u q ≡ false → AnswersWith (lent rules kinds rights) s list (chain u q) (Err NotActive) s list
     unfolding chain_on
-    chain_inactive r z e = own_refuses (lent rules kinds rights) s list h (chain u q) _ chain_is r 12 (omega arith) z (later ranges (here (of_false (active (decode s).rows u q) (sym (active_now s k u q all) ∙ e))))
+    chain_inactive e = own_refuses (lent rules kinds rights) s list h (chain u q) _ chain_is NotActive (later ranges (here (of_false (active (decode s).rows u q) (sym (active_now s k u q all) ∙ e))))
 
     -- the walk stands in the list and the rest is cleared
-    pub chain-written : (r : Answer) (before after : List ℕ) (n : ℕ) → r.code ≡ 0 → r.second ≡ n → active (first_rows s k) u q ≡ true → n ≤ 256 → length before ≡ 256
-        → written (policy_of (lent rules kinds rights)) (decode s).rows u 257 q ≡ take n before → Zeroed before after n 256 → AnswersWith (lent rules kinds rights) s list (chain u q) r s after
+    pub chain-written : (before after : List ℕ) (n : ℕ) → active (first_rows s k) u q ≡ true → n ≤ 256 → length before ≡ 256
+        → written (policy_of (lent rules kinds rights)) (decode s).rows u 257 q ≡ take n before → Zeroed before after n 256 → AnswersWith (lent rules kinds rights) s list (chain u q) (Ok n) s after
     unfolding chain_on
-    chain-written r before after n z e a l size w f =
-        own_accepts (lent rules kinds rights) s list h (chain u q) _ chain_is r s after z
+    chain-written before after n a l size w f =
+        own_accepts (lent rules kinds rights) s list h (chain u q) _ chain_is n s after
         (later ranges (later (found (active (decode s).rows u q) (sym (active_now s k u q all) ∙ a)) (later (of_false (some_twice (written (policy_of (lent rules kinds rights)) (decode s).rows u 257 q)) (never_twice (lent rules kinds rights) s h u 257 q k (active-newest s u q k a) (omega arith))) none)))
-        (e ∙ sym (ap length w ∙ length-take n before ∙ omega arith)) (sym (encode-decode s (sound_formed (policy_of (lent rules kinds rights)) s h.state))) (filled before after n l size f ∙ ap (filled_to 256) (sym w))
+        (sym (ap length w ∙ length-take n before ∙ omega arith)) (sym (encode-decode s (sound_formed (policy_of (lent rules kinds rights)) s h.state))) (filled before after n l size f ∙ ap (filled_to 256) (sym w))
 
 -- ── one turn of the loop: the row of the role, and the role that it rests on first ──
 

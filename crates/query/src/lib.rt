@@ -2,49 +2,36 @@
 
 #![tactic(auto)]
 
-ghost use Rattle.std.specs.Prelude.{◌≡◌, false, ◌&&◌, cond, ◌<◌, ◌≤◌, eqb, length, get_or};
+ghost use Rattle.std.specs.Prelude.{Ok, ◌≡◌, false, ◌&&◌, cond, ◌<◌, ◌≤◌, eqb, length, get_or};
 ghost use Rattle.model.specs.Limits.{roles};
 ghost use Rattle.model.specs.Layout.{row_count};
 ghost use Rattle.model.specs.Calls.{invoke as invoke_call, effective as effective_call, chain as chain_call};
 ghost use Rattle.model.specs.Words.{Sound};
 ghost use Rattle.table.specs.Entries.{without_rights};
-ghost use Rattle.inner.specs.Promise.{lent, Answers, AnswersWith};
+ghost use Rattle.model.specs.Answered.{tables_of};
+ghost use Rattle.inner.specs.Promise.{Answers, AnswersWith};
 ghost use Rattle.rests.specs.Asked.{asked_marks, AskedThrough};
 ghost use Rattle.query.specs.Reached.{rest_reaches, Ready, Tells};
 
 use model::{
-    Answer, FIRST_FACT, LIST_SIZE, NOT_ACTIVE, OUT_OF_RANGE, PRIVILEGES, ROLES, ROW_COUNT_AT, Row,
-    USERS,
+    Answer, FIRST_FACT, LIST_SIZE, Lent, PRIVILEGES, ROLES, ROW_COUNT_AT, Reason, Row, USERS,
 };
 
 // Accepted, with 1 or 0.
 fn told(so: bool) -> Answer
-    ensures { (result.code ≡ 0) × (result.second ≡ cond so 1 0) }
+    ensures { result ≡ Ok (cond so 1 0) }
 {
-    if so {
-        return Answer { code: 0, second: 1 };
-    }
-    Answer { code: 0, second: 0 }
+    Ok(u16::from(so))
 }
 
-pub fn invoke(
-    rules: &[u16],
-    kinds: &[u16],
-    rights: &[u16],
-    state: &[u16],
-    user: u16,
-    privilege: u16,
-) -> Answer
-    requires { Sound (lent rules.now kinds.now rights.now) state.now }
-    ensures { Answers (lent rules.now kinds.now rights.now) state.now (invoke_call user privilege) result state.now }
+pub fn invoke(policy: Lent, state: &[u16], user: u16, privilege: u16) -> Answer
+    requires { Sound (tables_of policy) state.now }
+    ensures { Answers (tables_of policy.entry) state.now (invoke_call user privilege) result state.now }
 {
-    if USERS <= user {
-        return inner::refused(OUT_OF_RANGE);
+    if user >= USERS || privilege >= PRIVILEGES {
+        return Err(Reason::OutOfRange);
     }
-    if PRIVILEGES <= privilege {
-        return inner::refused(OUT_OF_RANGE);
-    }
-    told(direct::may_invoke(rights, state, user, privilege))
+    told(direct::may_invoke(policy.rights, state, user, privilege))
 }
 
 // The row is the user's, and its role is asked.
@@ -52,26 +39,22 @@ fn is_asked(row: Row, user: u16, asked: &[bool]) -> bool
     requires { (length asked.now ≡ asked_marks) × (row.role < roles) }
     ensures { result ≡ (eqb row.user user && get_or asked.now row.role false) }
 {
-    if row.user == user {
-        return asked[table::wide(row.role)];
-    }
-    false
+    row.user == user && asked[usize::from(row.role)]
 }
 
 // Some role that is asked carries the privilege, in the first k rows. A row rests on earlier rows only, so one pass down the rows meets
 // each role after all that ask for it, and no row is asked twice: a rule may name one role eight times.
 #[cycle(certificates_reach_roles_reach)]
 fn roles_reach(
-    rules: &[u16],
-    kinds: &[u16],
+    policy: Lent,
     having: &[bool; ROLES as usize],
     state: &[u16],
     asked: &mut [bool],
     k: usize,
     user: u16,
 ) -> bool
-    requires { Ready (without_rights rules.now kinds.now) having.now state.now user × (k ≤ row_count state.now) × (length asked.old ≡ asked_marks) × AskedThrough kinds.now asked.old }
-    ensures { Tells (without_rights rules.now kinds.now) having.now state.now user asked.old k false result }
+    requires { Ready (without_rights policy.rules.now policy.kinds.now) having.now state.now user × (k ≤ row_count state.now) × (length asked.old ≡ asked_marks) × AskedThrough policy.kinds.now asked.old }
+    ensures { Tells (without_rights policy.entry.rules.now policy.entry.kinds.now) having.now state.now user asked.old k false result }
 {
     let mut i = k;
     while 0 < i {
@@ -83,8 +66,8 @@ fn roles_reach(
         if direct::has_right(having, row.role) {
             return true;
         }
-        if !rests::ask_row(rules, row, asked) {
-            return certificates_reach(rules, kinds, having, state, asked, i, user);
+        if !rests::ask_row(policy.rules, row, asked) {
+            return certificates_reach(policy, having, state, asked, i, user);
         }
     }
     false
@@ -94,84 +77,55 @@ fn roles_reach(
 // their prerequisite roles.
 #[cycle(certificates_reach_roles_reach)]
 fn certificates_reach(
-    rules: &[u16],
-    kinds: &[u16],
+    policy: Lent,
     having: &[bool; ROLES as usize],
     state: &[u16],
     asked: &mut [bool],
     k: usize,
     user: u16,
 ) -> bool
-    requires { Ready (without_rights rules.now kinds.now) having.now state.now user × (k < row_count state.now) × (length asked.old ≡ asked_marks) × AskedThrough kinds.now asked.old }
-    ensures { Tells (without_rights rules.now kinds.now) having.now state.now user asked.old k (rest_reaches (without_rights rules.now kinds.now) having.now state.now user k) result }
+    requires { Ready (without_rights policy.rules.now policy.kinds.now) having.now state.now user × (k < row_count state.now) × (length asked.old ≡ asked_marks) × AskedThrough policy.kinds.now asked.old }
+    ensures { Tells (without_rights policy.entry.rules.now policy.entry.kinds.now) having.now state.now user asked.old k (rest_reaches (without_rights policy.entry.rules.now policy.entry.kinds.now) having.now state.now user k) result }
 {
-    let own = rests::membership_of(rules, table::row_at(state, k));
+    let own = rests::membership_of(policy.rules, table::row_at(state, k));
     let conditions = own.conditions;
     let m = own.count;
     let mut i: usize = 0;
     while i < m {
-        rests::ask_condition(kinds, conditions[i], asked);
+        rests::ask_condition(policy.kinds, conditions[i], asked);
         i += 1;
     }
-    roles_reach(rules, kinds, having, state, asked, k, user)
+    roles_reach(policy, having, state, asked, k, user)
 }
 
-pub fn effective(
-    rules: &[u16],
-    kinds: &[u16],
-    rights: &[u16],
-    state: &[u16],
-    user: u16,
-    role: u16,
-    privilege: u16,
-) -> Answer
-    requires { Sound (lent rules.now kinds.now rights.now) state.now }
-    ensures { Answers (lent rules.now kinds.now rights.now) state.now (effective_call user role privilege) result state.now }
+pub fn effective(policy: Lent, state: &[u16], user: u16, role: u16, privilege: u16) -> Answer
+    requires { Sound (tables_of policy) state.now }
+    ensures { Answers (tables_of policy.entry) state.now (effective_call user role privilege) result state.now }
 {
-    if USERS <= user {
-        return inner::refused(OUT_OF_RANGE);
+    if user >= USERS || role >= ROLES || privilege >= PRIVILEGES {
+        return Err(Reason::OutOfRange);
     }
-    if ROLES <= role {
-        return inner::refused(OUT_OF_RANGE);
-    }
-    if PRIVILEGES <= privilege {
-        return inner::refused(OUT_OF_RANGE);
-    }
-    let n = table::wide(state[ROW_COUNT_AT]);
+    let n = usize::from(state[ROW_COUNT_AT]);
     if !table::is_active(state, n, user, role) {
-        return inner::refused(NOT_ACTIVE);
+        return Err(Reason::NotActive);
     }
-    let having = direct::roles_having(rights, privilege);
+    let having = direct::roles_having(policy.rights, privilege);
     let mut asked = [false; FIRST_FACT as usize];
-    asked[table::wide(role)] = true;
-    told(roles_reach(rules, kinds, &having, state, &mut asked, n, user))
+    asked[usize::from(role)] = true;
+    told(roles_reach(policy, &having, state, &mut asked, n, user))
 }
 
 // A row rests on earlier rows, so no role is written twice and the list has room for all.
-pub fn chain(
-    rules: &[u16],
-    kinds: &[u16],
-    rights: &[u16],
-    state: &[u16],
-    user: u16,
-    role: u16,
-    list: &mut [u16],
-) -> Answer
-    requires { Sound (lent rules.now kinds.now rights.now) state.now }
-    ensures { AnswersWith (lent rules.now kinds.now rights.now) state.now list.old (chain_call user role) result state.now list.new }
+pub fn chain(policy: Lent, state: &[u16], user: u16, role: u16, list: &mut [u16]) -> Answer
+    requires { Sound (tables_of policy) state.now }
+    ensures { AnswersWith (tables_of policy.entry) state.now list.old (chain_call user role) result state.now list.new }
 {
-    if USERS <= user {
-        return inner::refused(OUT_OF_RANGE);
+    if user >= USERS || role >= ROLES || list.len() != LIST_SIZE {
+        return Err(Reason::OutOfRange);
     }
-    if ROLES <= role {
-        return inner::refused(OUT_OF_RANGE);
-    }
-    if list.len() != LIST_SIZE {
-        return inner::refused(OUT_OF_RANGE);
-    }
-    let mut k = table::wide(state[ROW_COUNT_AT]);
+    let mut k = usize::from(state[ROW_COUNT_AT]);
     if !table::is_active(state, k, user, role) {
-        return inner::refused(NOT_ACTIVE);
+        return Err(Reason::NotActive);
     }
     let mut q = role;
     let mut n: usize = 0;
@@ -179,11 +133,8 @@ pub fn chain(
         k = rests::newest_row(state, k, user, q) - 1;
         list[n] = q;
         n += 1;
-        q = rests::next_role(rules, kinds, table::row_at(state, k));
+        q = rests::next_role(policy.rules, policy.kinds, table::row_at(state, k));
     }
     table::zero(list, n, LIST_SIZE);
-    Answer {
-        code: 0,
-        second: n as u16,
-    }
+    Ok(n as u16)
 }

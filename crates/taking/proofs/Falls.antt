@@ -9,7 +9,7 @@ use native.Mathlib.Omega.{arith}
 use lib.Dec.{T, eqb, ltb, eqb→eq, eqb_refl, lt→ltb, le→leb, T_not, not_T}
 use lib.ListN.{length, get_or, set, take, drop, length-take, length-drop, length-append}
 use lib.Seq.{get_or-take, get_or-set_same, get_or-set_other, length-take-le}
-use borrow.Author.Tests.{lt-ltb, le-ltb}
+use borrow.Author.Tests.{lt-ltb, le-ltb, lt-leb}
 use Rattle.model.specs.Lists.{any, every, all_over_earlier, without, first_place, is_bit}
 use Rattle.model.specs.Limits.{facts, state_size}
 use Rattle.model.specs.Values.{Policy, State, world_of, with_rows, with_certificates, with_fact}
@@ -20,10 +20,14 @@ use Rattle.model.specs.Sound.{same_certificate, certificate_clauses, certificate
 use Rattle.model.specs.Outcome.{Course, Keeps, first_code, judged_first, decided, given}
 use Rattle.model.specs.Calls.{Call, revoke, withdraw, environment, logout, is_user, has_row, stands, of_user, may_revoke, without_certificate, settled, revoke_on, withdraw_on, environment_on, logout_on, course_of, answer}
 use Rattle.model.specs.Words.{Fits, Sound, FirstApplies, none, here, later}
-use Rattle.model.specs.declared.Answer.{Answer}
+use Rattle.std.proofs.Common.{Ok, Err, Some, None, position}
+use Rattle.model.specs.Answered.{Answer, code_of, code, second}
+use Rattle.model.specs.declared.Reason.{Reason}
+use Rattle.model.specs.declared.Reason.TheVariants.{OutOfRange, NoSuchCertificate, MayNotRevoke}
 use Rattle.model.specs.declared.Row.{Row}
 use Rattle.model.specs.declared.Certificate.{Certificate}
 use Rattle.model.proofs.Tests.{decide, and_right, is_true, of_true, of_false, each, of_each, earlier_of, earlier_map, found-any, not_found, of_any}
+use Rattle.model.proofs.Chains.{placed, unplaced}
 use Rattle.model.proofs.Refusals.{first-applies, only-first}
 use Rattle.model.proofs.Parts.{without-none}
 use Rattle.model.proofs.Sweep.{left_whole}
@@ -36,7 +40,7 @@ use Rattle.table.proofs.Worlds.{supported-same}
 use Rattle.marks.specs.Owned.{InRange}
 use Rattle.fall.specs.Pass.{RowsLeft}
 use Rattle.inner.specs.Promise.{lent, Answers}
-use Rattle.inner.proofs.Codes.{own_decide, own_refuses, own_accepts, out_of_range_lem, in_range, found, certificate-length, some_kind}
+use Rattle.inner.proofs.Codes.{not_accepted, own_decide, own_refuses, own_accepts, out_of_range_lem, in_range, found, certificate-length, no_kind_lem, some_kind}
 use Rattle.taking.specs.Fallen.{all_supported, Fallen, fallen_rows}
 use Rattle.taking.specs.Taken.{taken_on, Comes}
 
@@ -154,25 +158,25 @@ unfolding policy_of
 same-fall rules kinds rights v = λ i. left (supported-same (policy_of (without_rights rules kinds)) (policy_of (lent rules kinds rights)) v refl refl i) v.rows
 
 -- a course that is refused, and one that is not
-refused_comes : (course : Course) (s : List ℕ) (r : Answer) (code : ℕ) → 0 < code → (r.code ≡ code) × (r.second ≡ 0) → FirstApplies course.refusals code → Comes course s r s
+refused_comes : (course : Course) (s : List ℕ) (reason : Reason) → FirstApplies course.refusals (code_of reason) → Comes course s (Err reason) s
 unfolding decided
-refused_comes course s r code p z f = subst (λ (n : ℕ). Keeps (decided n s [] course.effect) r.code r.second s []) (only-first f) (go code p z)
+refused_comes course s reason f = subst (λ (n : ℕ). Keeps (decided n s [] course.effect) (code_of reason) 0 s []) (only-first f) (go (code_of reason) (not_accepted reason))
   where
-    go : (n : ℕ) → 0 < n → (r.code ≡ n) × (r.second ≡ 0) → Keeps (decided n s [] course.effect) r.code r.second s []
-    go zero p z = absurd (omega arith)
-    go (suc n) p z = record { code_kept = z.0; second_kept = z.1; state_kept = refl; list_kept = refl }
+    go : (n : ℕ) → 0 < n → Keeps (decided n s [] course.effect) n 0 s []
+    go zero p = absurd (omega arith)
+    go (suc n) p = record { code_kept = refl; second_kept = refl; state_kept = refl; list_kept = refl }
 
-accepted_comes : (course : Course) (s s' : List ℕ) (r : Answer) → r.code ≡ 0 → FirstApplies course.refusals 0 → r.second ≡ course.effect.second → s' ≡ encode course.effect.state → [] ≡ course.effect.list → Comes course s r s'
+accepted_comes : (course : Course) (s s' : List ℕ) (n : ℕ) → FirstApplies course.refusals 0 → n ≡ course.effect.second → s' ≡ encode course.effect.state → [] ≡ course.effect.list → Comes course s (Ok n) s'
 unfolding decided
-accepted_comes course s s' r z f a b l = subst (λ (n : ℕ). Keeps (decided n s [] course.effect) r.code r.second s' []) (only-first f) (record { code_kept = z; second_kept = a; state_kept = b; list_kept = l })
+accepted_comes course s s' n f a b l = subst (λ (m : ℕ). Keeps (decided m s [] course.effect) 0 n s' []) (only-first f) (record { code_kept = refl; second_kept = a; state_kept = b; list_kept = l })
 
 module _ (rules kinds rights s : List ℕ) (h : Sound (lent rules kinds rights) s) where
   -- on sound tables a call comes to what its own course comes to
   on_sound : (c : Call) (course : Course) → course_of (lent rules kinds rights) s [] c ≡ judged_first (lent rules kinds rights) s course → (r : Answer) (s' : List ℕ) → Comes course s r s' → Answers (lent rules kinds rights) s c r s'
   unfolding answer judged_first
   on_sound c course is r s' k =
-      subst (λ (x : Course). Keeps (decided (first_code x.refusals) s [] x.effect) r.code r.second s' []) (sym is)
-      (subst (λ (n : ℕ). Keeps (decided n s [] course.effect) r.code r.second s' []) (only-first (own_decide (lent rules kinds rights) s h course (first-applies course.refusals))) k)
+      subst (λ (x : Course). Keeps (decided (first_code x.refusals) s [] x.effect) (code r) (second r) s' []) (sym is)
+      (subst (λ (n : ℕ). Keeps (decided n s [] course.effect) (code r) (second r) s' []) (only-first (own_decide (lent rules kinds rights) s h course (first-applies course.refusals))) k)
 
   -- each row of a sound state has its support
   pub sound-supported : all_supported rules kinds (decode s) ≡ true
@@ -189,34 +193,49 @@ module _ (rules kinds rights s : List ℕ) (h : Sound (lent rules kinds rights) 
     abbrev away : Course
     away = taken_on (given (lent rules kinds rights) s []) c allowed
 
-    pub away_out : (r : Answer) → (r.code ≡ 3) × (r.second ≡ 0) → (i : ℕ) → get_or (is_user c.appointee ∷ has_row (policy_of (lent rules kinds rights)) c.kind ∷ is_user c.appointer ∷ []) i true ≡ false → Comes away s r s
-    away_out r z i o = refused_comes away s r 3 (omega arith) z (here (out_of_range_lem (is_user c.appointee ∷ has_row (policy_of (lent rules kinds rights)) c.kind ∷ is_user c.appointer ∷ []) i o))
+    away_out : (i : ℕ) → get_or (is_user c.appointee ∷ has_row (policy_of (lent rules kinds rights)) c.kind ∷ is_user c.appointer ∷ []) i true ≡ false → Comes away s (Err OutOfRange) s
+    away_out i o = refused_comes away s OutOfRange (here (out_of_range_lem (is_user c.appointee ∷ has_row (policy_of (lent rules kinds rights)) c.kind ∷ is_user c.appointer ∷ []) i o))
 
-    module _ (in₁ : c.appointee < 4096) (in₂ : c.kind < length kinds / 7) (in₃ : c.appointer < 4096) (j : ℕ) (at : j ≡ first_place (same_certificate c) (decode s).certificates) where
+    pub away-no-appointee : 4096 ≤ c.appointee → Comes away s (Err OutOfRange) s
+    away-no-appointee l = away_out 0 (le-ltb c.appointee 4096 l)
+
+    pub away-no-kind : length kinds / 7 ≤ c.kind → Comes away s (Err OutOfRange) s
+    away-no-kind l = away_out 1 (no_kind_lem rules kinds rights c.kind l)
+
+    pub away-no-appointer : 4096 ≤ c.appointer → Comes away s (Err OutOfRange) s
+    away-no-appointer l = away_out 2 (le-ltb c.appointer 4096 l)
+
+    module _ (in₁ : c.appointee < 4096) (in₂ : c.kind < length kinds / 7) (in₃ : c.appointer < 4096) where
       range : T (not (not (every (is_user c.appointee ∷ has_row (policy_of (lent rules kinds rights)) c.kind ∷ is_user c.appointer ∷ []))))
       range = in_range (is_user c.appointee ∷ has_row (policy_of (lent rules kinds rights)) c.kind ∷ is_user c.appointer ∷ []) (lt→ltb c.appointee 4096 in₁, (some_kind rules kinds rights c.kind in₂, (lt→ltb c.appointer 4096 in₃, tt)))
 
-      pub away_none : (r : Answer) → (r.code ≡ 9) × (r.second ≡ 0) → certificate_count s ≤ j → Comes away s r s
-      away_none r z l = refused_comes away s r 9 (omega arith) z (later range (here (of_false (stands (decode s) c) (not_found (same_certificate c) (decode s).certificates (omega (arith, certificate-length s))))))
+      pub away_none : None ≡ position (same_certificate c) (decode s).certificates → Comes away s (Err NoSuchCertificate) s
+      away_none at = refused_comes away s NoSuchCertificate (later range (here (of_false (stands (decode s) c) (not_found (same_certificate c) (decode s).certificates (unplaced (same_certificate c) (decode s).certificates (sym at))))))
 
-      module _ (exists : j < certificate_count s) where
+      module _ (j : ℕ) (at : Some j ≡ position (same_certificate c) (decode s).certificates) where
+        first : (j ≡ first_place (same_certificate c) (decode s).certificates) × (j < length (decode s).certificates)
+        first = placed (same_certificate c) (decode s).certificates j (sym at)
+
+        pub exists : j < certificate_count s
+        exists = omega (arith, first.1, certificate-length s)
+
         it_stands : stands (decode s) c ≡ true
-        it_stands = found-any (same_certificate c) (decode s).certificates (omega (arith, certificate-length s))
+        it_stands = found-any (same_certificate c) (decode s).certificates (omega (arith, first.0, first.1))
 
-        pub away_forbidden : (r : Answer) → (r.code ≡ 10) × (r.second ≡ 0) → allowed ≡ false → Comes away s r s
-        away_forbidden r z e = refused_comes away s r 10 (omega arith) z (later range (later (found _ it_stands) (here (of_false allowed e))))
+        pub away_forbidden : allowed ≡ false → Comes away s (Err MayNotRevoke) s
+        away_forbidden e = refused_comes away s MayNotRevoke (later range (later (found _ it_stands) (here (of_false allowed e))))
 
         gone : take j (decode s).certificates ++ drop (suc j) (decode s).certificates ≡ without (same_certificate c) (decode s).certificates
         gone =
-            ap (λ (n : ℕ). take n (decode s).certificates ++ drop (suc n) (decode s).certificates) at
+            ap (λ (n : ℕ). take n (decode s).certificates ++ drop (suc n) (decode s).certificates) first.0
             ∙ sym (without-first (policy_of (lent rules kinds rights)) c [] (decode s).certificates (sound-certificates (policy_of (lent rules kinds rights)) (decode s) (sound-decode (policy_of (lent rules kinds rights)) s h.state)) (of_true (stands (decode s) c) it_stands))
 
         -- it goes and the rows fall: the numbers are the effect's
-        pub away_done : (r : Answer) (s' : List ℕ) → allowed ≡ true → r.code ≡ 0 → Fallen rules kinds (with_certificates (decode s) (take j (decode s).certificates ++ drop (suc j) (decode s).certificates)) s' r.second → Comes away s r s'
+        pub away_done : (s' : List ℕ) (n : ℕ) → allowed ≡ true → Fallen rules kinds (with_certificates (decode s) (take j (decode s).certificates ++ drop (suc j) (decode s).certificates)) s' n → Comes away s (Ok n) s'
         unfolding settled
-        away_done r s' e z f =
-            let fell : Fallen rules kinds (without_certificate (decode s) c) s' r.second = subst (λ (l : List Certificate). Fallen rules kinds (with_certificates (decode s) l) s' r.second) gone f in
-            accepted_comes away s s' r z (later range (later (found _ it_stands) (later (found allowed e) none)))
+        away_done s' n e f =
+            let fell : Fallen rules kinds (without_certificate (decode s) c) s' n = subst (λ (l : List Certificate). Fallen rules kinds (with_certificates (decode s) l) s' n) gone f in
+            accepted_comes away s s' n (later range (later (found _ it_stands) (later (found allowed e) none)))
             (omega (arith, fell.count, ap length (same-fall rules kinds rights (without_certificate (decode s) c))))
             (fell.state ∙ ap (λ (rows : List Row). encode (with_rows (without_certificate (decode s) c) rows)) (same-fall rules kinds rights (without_certificate (decode s) c))) refl
 
@@ -233,32 +252,38 @@ module _ (rules kinds rights s : List ℕ) (h : Sound (lent rules kinds rights) 
     unfolding course_of revoke_on policy_of
     revoked caller allowed in₀ e x =
         on_sound (revoke caller a k b) _ refl r s'
-        (subst (λ (n : ℕ). Keeps (decided n s [] (settled (given (lent rules kinds rights) s []) (without_certificate (decode s) (record { appointee = a; kind = k; appointer = b })))) r.code r.second s' [])
+        (subst (λ (n : ℕ). Keeps (decided n s [] (settled (given (lent rules kinds rights) s []) (without_certificate (decode s) (record { appointee = a; kind = k; appointer = b })))) (code r) (second r) s' [])
         (λ i. cond (not (sym (lt-ltb caller 4096 in₀) i && every (is_user a ∷ has_row (policy_of (lent rules kinds rights)) k ∷ is_user b ∷ []))) 3 (cond (not (stands (decode s) (record { appointee = a; kind = k; appointer = b }))) 9 (cond (not (e i)) 10 0))) x)
 
-  pub revoke-out : (caller a k b : ℕ) (r : Answer) → (r.code ≡ 3) × (r.second ≡ 0) → 4096 ≤ caller → Answers (lent rules kinds rights) s (revoke caller a k b) r s
+  pub revoke-out : (caller a k b : ℕ) → 4096 ≤ caller → Answers (lent rules kinds rights) s (revoke caller a k b) (Err OutOfRange) s
   unfolding course_of revoke_on
-  revoke-out caller a k b r z l = own_refuses (lent rules kinds rights) s [] h (revoke caller a k b) _ refl r 3 (omega arith) z (here (out_of_range_lem (is_user caller ∷ is_user a ∷ has_row (policy_of (lent rules kinds rights)) k ∷ is_user b ∷ []) 0 (le-ltb caller 4096 l)))
+  revoke-out caller a k b l = own_refuses (lent rules kinds rights) s [] h (revoke caller a k b) _ refl OutOfRange (here (out_of_range_lem (is_user caller ∷ is_user a ∷ has_row (policy_of (lent rules kinds rights)) k ∷ is_user b ∷ []) 0 (le-ltb caller 4096 l)))
 
   -- ── environment and logout ──
 
   module _ (f v : ℕ) where
-    pub environment-out : (r : Answer) → (r.code ≡ 3) × (r.second ≡ 0) → T (not (every (ltb f facts ∷ is_bit v ∷ []))) → Answers (lent rules kinds rights) s (environment f v) r s
+    environment-out : (i : ℕ) → get_or (ltb f facts ∷ is_bit v ∷ []) i true ≡ false → Answers (lent rules kinds rights) s (environment f v) (Err OutOfRange) s
     unfolding course_of environment_on
-    environment-out r z o = own_refuses (lent rules kinds rights) s [] h (environment f v) _ refl r 3 (omega arith) z (here o)
+    environment-out i e = own_refuses (lent rules kinds rights) s [] h (environment f v) _ refl OutOfRange (here (out_of_range_lem (ltb f facts ∷ is_bit v ∷ []) i e))
 
-    pub environment_done : (r : Answer) (s' : List ℕ) → f < 64 → v ≤ 1 → r.code ≡ 0 → Fallen rules kinds (with_fact (decode s) f v) s' r.second → Answers (lent rules kinds rights) s (environment f v) r s'
+    pub environment-no-fact : 64 ≤ f → Answers (lent rules kinds rights) s (environment f v) (Err OutOfRange) s
+    environment-no-fact l = environment-out 0 (le-ltb f 64 l)
+
+    pub environment-no-bit : 1 < v → Answers (lent rules kinds rights) s (environment f v) (Err OutOfRange) s
+    environment-no-bit l = environment-out 1 (lt-leb v 1 l)
+
+    pub environment_done : (s' : List ℕ) (n : ℕ) → f < 64 → v ≤ 1 → Fallen rules kinds (with_fact (decode s) f v) s' n → Answers (lent rules kinds rights) s (environment f v) (Ok n) s'
     unfolding course_of environment_on settled
-    environment_done r s' a b z e =
-        own_accepts (lent rules kinds rights) s [] h (environment f v) _ refl r s' [] z (later (in_range (ltb f facts ∷ is_bit v ∷ []) (lt→ltb f 64 a, (le→leb v 1 b, tt))) none)
+    environment_done s' n a b e =
+        own_accepts (lent rules kinds rights) s [] h (environment f v) _ refl n s' [] (later (in_range (ltb f facts ∷ is_bit v ∷ []) (lt→ltb f 64 a, (le→leb v 1 b, tt))) none)
         (omega (arith, e.count, ap length (same-fall rules kinds rights (with_fact (decode s) f v))))
         (e.state ∙ ap (λ (rows : List Row). encode (with_rows (with_fact (decode s) f v) rows)) (same-fall rules kinds rights (with_fact (decode s) f v))) refl
 
   module _ (u : ℕ) where
-    pub logout-out : (r : Answer) → (r.code ≡ 3) × (r.second ≡ 0) → 4096 ≤ u → Answers (lent rules kinds rights) s (logout u) r s
+    pub logout-out : 4096 ≤ u → Answers (lent rules kinds rights) s (logout u) (Err OutOfRange) s
     unfolding course_of logout_on
-    logout-out r z l = own_refuses (lent rules kinds rights) s [] h (logout u) _ refl r 3 (omega arith) z (here (out_of_range_lem (is_user u ∷ []) 0 (le-ltb u 4096 l)))
+    logout-out l = own_refuses (lent rules kinds rights) s [] h (logout u) _ refl OutOfRange (here (out_of_range_lem (is_user u ∷ []) 0 (le-ltb u 4096 l)))
 
-    pub logout_done : (r : Answer) (s' : List ℕ) → u < 4096 → r.code ≡ 0 → RowsLeft s s' (without (of_user u) (decode s).rows) r.second → Answers (lent rules kinds rights) s (logout u) r s'
+    pub logout_done : (s' : List ℕ) (n : ℕ) → u < 4096 → RowsLeft s s' (without (of_user u) (decode s).rows) n → Answers (lent rules kinds rights) s (logout u) (Ok n) s'
     unfolding course_of logout_on
-    logout_done r s' a z e = own_accepts (lent rules kinds rights) s [] h (logout u) _ refl r s' [] z (later (in_range (is_user u ∷ []) (lt→ltb u 4096 a, tt)) none) (omega (arith, e.count)) e.state refl
+    logout_done s' n a e = own_accepts (lent rules kinds rights) s [] h (logout u) _ refl n s' [] (later (in_range (is_user u ∷ []) (lt→ltb u 4096 a, tt)) none) (omega (arith, e.count)) e.state refl

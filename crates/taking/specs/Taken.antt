@@ -3,7 +3,7 @@ use Rattle.std.specs.Prelude.{ℕ, Bool, not, List, [], ◌∷◌}
 use Rattle.model.specs.Limits.{no_such_certificate, may_not_revoke}
 use Rattle.model.specs.Outcome.{Course, Given, Keeps, ◌⇒◌, first_code, decided}
 use Rattle.model.specs.Calls.{out_of_range_unless, is_user, has_row, stands, without_certificate, settled}
-use Rattle.model.specs.declared.Answer.{Answer}
+use Rattle.model.specs.Answered.{Answer, code, second}
 use Rattle.model.specs.declared.Certificate.{Certificate}
 
 -- the course of a call that takes the certificate away, if that is allowed
@@ -16,4 +16,4 @@ taken_on g c allowed =
 
 -- the answer r and the numbers s' are what the course comes to on the numbers s
 abbrev pub Comes : Course → List ℕ → Answer → List ℕ → Type 0
-Comes course s r s' = Keeps (decided (first_code course.refusals) s [] course.effect) r.code r.second s' []
+Comes course s r s' = Keeps (decided (first_code course.refusals) s [] course.effect) (code r) (second r) s' []

@@ -10,30 +10,14 @@ ghost use Rattle.model.specs.Calls.{answer, fresh as fresh_call, activate as act
 ghost use Rattle.model.specs.Words.{Sound};
 ghost use Rattle.inner.specs.Promise.{lent};
 
-use model::Answer;
-
-#[repr(C)]
-#[derive(Clone, Copy)]
-pub struct Reply {
-    pub code: u16,
-    pub second: u16,
-}
-
-fn reply_of(answer: Answer) -> Reply
-    ensures { (result.code ≡ answer.code) × (result.second ≡ answer.second) }
-{
-    Reply {
-        code: answer.code,
-        second: answer.second,
-    }
-}
+use model::{Certificate, Lent, Reply};
 
 #[unsafe(no_mangle)]
 pub extern "C" fn within_fresh(state: &mut [u16]) -> Reply
     requires { length state.old ≡ state_size }
     ensures { Keeps (answer (lent [] [] []) state.old [] fresh_call) result.code result.second state.new [] }
 {
-    reply_of(inner::fresh(state))
+    inner::fresh(state).into()
 }
 
 #[unsafe(no_mangle)]
@@ -48,7 +32,12 @@ pub extern "C" fn within_activate(
     requires { Sound (lent rules.now kinds.now rights.now) state.old }
     ensures { Keeps (answer (lent rules.now kinds.now rights.now) state.old [] (activate_call user role)) result.code result.second state.new [] }
 {
-    reply_of(inner::activate(rules, kinds, rights, state, user, role))
+    let policy = Lent {
+        rules,
+        kinds,
+        rights,
+    };
+    inner::activate(policy, state, user, role).into()
 }
 
 #[unsafe(no_mangle)]
@@ -64,7 +53,17 @@ pub extern "C" fn within_appoint(
     requires { Sound (lent rules.now kinds.now rights.now) state.old }
     ensures { Keeps (answer (lent rules.now kinds.now rights.now) state.old [] (appoint_call appointer appointee kind)) result.code result.second state.new [] }
 {
-    reply_of(inner::appoint(rules, kinds, rights, state, appointer, appointee, kind))
+    let policy = Lent {
+        rules,
+        kinds,
+        rights,
+    };
+    let certificate = Certificate {
+        appointee,
+        kind,
+        appointer,
+    };
+    inner::appoint(policy, state, certificate).into()
 }
 
 #[unsafe(no_mangle)]
@@ -81,9 +80,17 @@ pub extern "C" fn within_revoke(
     requires { Sound (lent rules.now kinds.now rights.now) state.old }
     ensures { Keeps (answer (lent rules.now kinds.now rights.now) state.old [] (revoke_call caller appointee kind appointer)) result.code result.second state.new [] }
 {
-    reply_of(taking::revoke(
-        rules, kinds, rights, state, caller, appointee, kind, appointer,
-    ))
+    let policy = Lent {
+        rules,
+        kinds,
+        rights,
+    };
+    let certificate = Certificate {
+        appointee,
+        kind,
+        appointer,
+    };
+    taking::revoke(policy, state, caller, certificate).into()
 }
 
 #[unsafe(no_mangle)]
@@ -99,7 +106,17 @@ pub extern "C" fn within_withdraw(
     requires { Sound (lent rules.now kinds.now rights.now) state.old }
     ensures { Keeps (answer (lent rules.now kinds.now rights.now) state.old [] (withdraw_call appointee kind appointer)) result.code result.second state.new [] }
 {
-    reply_of(taking::withdraw(rules, kinds, rights, state, appointee, kind, appointer))
+    let policy = Lent {
+        rules,
+        kinds,
+        rights,
+    };
+    let certificate = Certificate {
+        appointee,
+        kind,
+        appointer,
+    };
+    taking::withdraw(policy, state, certificate).into()
 }
 
 #[unsafe(no_mangle)]
@@ -114,7 +131,12 @@ pub extern "C" fn within_environment(
     requires { Sound (lent rules.now kinds.now rights.now) state.old }
     ensures { Keeps (answer (lent rules.now kinds.now rights.now) state.old [] (environment_call fact value)) result.code result.second state.new [] }
 {
-    reply_of(taking::environment(rules, kinds, rights, state, fact, value))
+    let policy = Lent {
+        rules,
+        kinds,
+        rights,
+    };
+    taking::environment(policy, state, fact, value).into()
 }
 
 #[unsafe(no_mangle)]
@@ -128,7 +150,12 @@ pub extern "C" fn within_logout(
     requires { Sound (lent rules.now kinds.now rights.now) state.old }
     ensures { Keeps (answer (lent rules.now kinds.now rights.now) state.old [] (logout_call user)) result.code result.second state.new [] }
 {
-    reply_of(taking::logout(rules, kinds, rights, state, user))
+    let policy = Lent {
+        rules,
+        kinds,
+        rights,
+    };
+    taking::logout(policy, state, user).into()
 }
 
 #[unsafe(no_mangle)]
@@ -143,7 +170,12 @@ pub extern "C" fn within_invoke(
     requires { Sound (lent rules.now kinds.now rights.now) state.now }
     ensures { Keeps (answer (lent rules.now kinds.now rights.now) state.now [] (invoke_call user privilege)) result.code result.second state.now [] }
 {
-    reply_of(query::invoke(rules, kinds, rights, state, user, privilege))
+    let policy = Lent {
+        rules,
+        kinds,
+        rights,
+    };
+    query::invoke(policy, state, user, privilege).into()
 }
 
 #[unsafe(no_mangle)]
@@ -159,7 +191,12 @@ pub extern "C" fn within_effective(
     requires { Sound (lent rules.now kinds.now rights.now) state.now }
     ensures { Keeps (answer (lent rules.now kinds.now rights.now) state.now [] (effective_call user role privilege)) result.code result.second state.now [] }
 {
-    reply_of(query::effective(rules, kinds, rights, state, user, role, privilege))
+    let policy = Lent {
+        rules,
+        kinds,
+        rights,
+    };
+    query::effective(policy, state, user, role, privilege).into()
 }
 
 #[unsafe(no_mangle)]
@@ -175,5 +212,10 @@ pub extern "C" fn within_chain(
     requires { Sound (lent rules.now kinds.now rights.now) state.now }
     ensures { Keeps (answer (lent rules.now kinds.now rights.now) state.now list.old (chain_call user role)) result.code result.second state.now list.new }
 {
-    reply_of(query::chain(rules, kinds, rights, state, user, role, list))
+    let policy = Lent {
+        rules,
+        kinds,
+        rights,
+    };
+    query::chain(policy, state, user, role, list).into()
 }

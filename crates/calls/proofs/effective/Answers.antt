@@ -1,13 +1,12 @@
-use mathlib.Core.Path.{refl}
+use Rattle.std.proofs.Common.{[], refl}
+use Rattle.model.specs.Answered.{tables_of}
 use Rattle.model.specs.Calls.{course_of}
-use Rattle.inner.specs.Promise.{lent}
-use mathlib.Core.List.{[]}
-use Rattle.calls.proofs.Judged.{unsound, judged_sound}
+use Rattle.calls.proofs.Judged.{unsound_passed, judged_sound}
 use Rattle.calls.proofs.effective.Goals as goal
 
-pub returns-then-code-ne0 : goal.returns-then-code-ne0
+pub returns-in_err-judge : goal.returns-in_err-judge
 unfolding course_of
-returns-then-code-ne0 c = unsound (lent c.args.rules.now c.args.kinds.now c.args.rights.now) c.args.state.now [] _ _ refl c.refused.result _ c.refused.ensures c.if-code-ne0.true c.judge-code.ensures
+returns-in_err-judge c = unsound_passed (tables_of c.args.policy) c.args.state.now [] _ _ refl _ _ c.from_residual.ensures.1 c.in_err-judge.ensures
 
 pub effective-requires : goal.effective-requires
-effective-requires c = judged_sound (lent c.args.rules.now c.args.kinds.now c.args.rights.now) c.args.state.now _ c.if-code-ne0.false c.judge-code.ensures
+effective-requires c = judged_sound (tables_of c.args.policy) c.args.state.now c.in_ok-judge.ensures

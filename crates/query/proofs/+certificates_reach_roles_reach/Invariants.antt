@@ -14,16 +14,16 @@ abbrev pub decreases-roles_reach : goal.decreases-roles_reach
 decreases-roles_reach l = l.k * 2
 
 abbrev pub invariant-certificates_reach-loop-i : goal.invariant-certificates_reach-loop-i
-invariant-certificates_reach-loop-i l = (l.i ≤ l.m) × Grown l.kinds l.initial.asked l.asked l.conditions l.i × ((j : ℕ) → j < l.i → HasAsked l.kinds l.asked (get_or l.conditions j 0))
+invariant-certificates_reach-loop-i l = (l.i ≤ l.m) × Grown l.policy.kinds.now l.initial.asked l.asked l.conditions l.i × ((j : ℕ) → j < l.i → HasAsked l.policy.kinds.now l.asked (get_or l.conditions j 0))
 
 abbrev pub decreases-certificates_reach-loop-i : goal.decreases-certificates_reach-loop-i
 decreases-certificates_reach-loop-i l = l.m - l.i
 
 abbrev pub invariant-roles_reach-loop-i : goal.invariant-roles_reach-loop-i
 invariant-roles_reach-loop-i l =
-    (l.i ≤ l.k) × (length l.asked ≡ 384) × AskedThrough l.kinds l.asked
-    × ((r : Bool) → Tells (without_rights l.rules l.kinds) l.having l.state l.user l.asked l.i false r
-    → Tells (without_rights l.rules l.kinds) l.having l.state l.user l.initial.asked l.k false r)
+    (l.i ≤ l.k) × (length l.asked ≡ 384) × AskedThrough l.policy.kinds.now l.asked
+    × ((r : Bool) → Tells (without_rights l.policy.rules.now l.policy.kinds.now) l.having l.state l.user l.asked l.i false r
+    → Tells (without_rights l.policy.rules.now l.policy.kinds.now) l.having l.state l.user l.initial.asked l.k false r)
 
 abbrev pub decreases-roles_reach-loop-i : goal.decreases-roles_reach-loop-i
 decreases-roles_reach-loop-i l = l.i

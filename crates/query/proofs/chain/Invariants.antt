@@ -13,7 +13,7 @@ use Rattle.query.proofs.Chaining.{onward}
 use Rattle.query.proofs.chain.Given as goal
 
 abbrev pub invariant-loop-q : goal.invariant-loop-q
-invariant-loop-q l = (l.n + l.k ≤ row_count l.state) × (length l.list ≡ 256) × (l.q < 256 → newest l.state l.user l.q l.k ≢ 0) × (written (policy_of (lent l.rules l.kinds l.rights)) (decode l.state).rows l.user 257 l.role ≡ take l.n l.list ++ onward (lent l.rules l.kinds l.rights) l.state l.user (257 - l.n) l.q)
+invariant-loop-q l = (l.n + l.k ≤ row_count l.state) × (length l.list ≡ 256) × (l.q < 256 → newest l.state l.user l.q l.k ≢ 0) × (written (policy_of (lent l.policy.rules.now l.policy.kinds.now l.policy.rights.now)) (decode l.state).rows l.user 257 l.role ≡ take l.n l.list ++ onward (lent l.policy.rules.now l.policy.kinds.now l.policy.rights.now) l.state l.user (257 - l.n) l.q)
 
 abbrev pub decreases-loop-q : goal.decreases-loop-q
 decreases-loop-q l = l.k

@@ -1,19 +1,18 @@
-use mathlib.Core.List.{[], ◌∷◌}
-use borrow.Author.Tests.{le-ltb}
-use Rattle.model.specs.Calls.{is_user, is_privilege}
-use Rattle.inner.proofs.Codes.{sound-sized, out_of_range_lem}
+use Rattle.inner.proofs.Codes.{sound-sized}
 use Rattle.direct.proofs.Having.{sound-rights}
-use Rattle.query.proofs.Invoking.{invoke-out, invoke-told}
+use Rattle.query.proofs.Invoking.{invoke-no-user, invoke-no-privilege, invoke-told}
+use Rattle.query.proofs.invoke.Goals.{then-user-ge-USERS-via-then-user-ge-USERS, then-user-ge-USERS-via-else-user-ge-USERS+then-privilege-ge-PRIVILEGES}
 use Rattle.query.proofs.invoke.Goals as goal
 
 pub returns-then-user-ge-USERS : goal.returns-then-user-ge-USERS
-returns-then-user-ge-USERS c = invoke-out c.args.rules.now c.args.kinds.now c.args.rights.now c.args.state.now c.requires c.args.user c.args.privilege c.refused.result c.refused.ensures (out_of_range_lem (is_user c.args.user ∷ is_privilege c.args.privilege ∷ []) 0 (le-ltb c.args.user 4096 c.if-user-ge-USERS.true))
-
-pub returns-then-privilege-ge-PRIVILEGES : goal.returns-then-privilege-ge-PRIVILEGES
-returns-then-privilege-ge-PRIVILEGES c = invoke-out c.args.rules.now c.args.kinds.now c.args.rights.now c.args.state.now c.requires c.args.user c.args.privilege c.refused-then-privilege-ge-PRIVILEGES.result c.refused-then-privilege-ge-PRIVILEGES.ensures (out_of_range_lem (is_user c.args.user ∷ is_privilege c.args.privilege ∷ []) 1 (le-ltb c.args.privilege 1024 c.if-privilege-ge-PRIVILEGES.true))
+returns-then-user-ge-USERS c =
+    elim c.then-user-ge-USERS.branch [
+      | then-user-ge-USERS-via-then-user-ge-USERS w ↦ invoke-no-user _ _ _ _ c.requires _ _ w.if-user-ge-USERS.true
+      | then-user-ge-USERS-via-else-user-ge-USERS+then-privilege-ge-PRIVILEGES w ↦ invoke-no-privilege _ _ _ _ c.requires _ _ w.if-privilege-ge-PRIVILEGES.true
+    ]
 
 pub may_invoke-requires : goal.may_invoke-requires
-may_invoke-requires c = (sound-sized _ c.args.state.now c.requires, sound-rights c.args.rules.now c.args.kinds.now c.args.rights.now c.args.state.now c.requires)
+may_invoke-requires c = (sound-sized _ c.args.state.now c.requires, sound-rights _ _ _ _ c.requires)
 
 pub returns : goal.returns
-returns c = invoke-told c.args.rules.now c.args.kinds.now c.args.rights.now c.args.state.now c.requires c.args.user c.args.privilege c.told.result c.may_invoke.result c.if-user-ge-USERS.false c.if-privilege-ge-PRIVILEGES.false c.told.ensures c.may_invoke.ensures
+returns c = invoke-told _ _ _ _ c.requires c.args.user c.args.privilege _ _ c.if-user-ge-USERS.false c.if-privilege-ge-PRIVILEGES.false c.told.ensures c.may_invoke.ensures

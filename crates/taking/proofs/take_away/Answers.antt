@@ -1,33 +1,34 @@
-use mathlib.Core.Path.{refl}
-use native.Mathlib.Omega.{arith}
-use borrow.Author.Tests.{le-ltb}
-use Rattle.inner.proofs.Codes.{sound_form, sound_range, sound-sized, no_kind_lem}
-use Rattle.taking.proofs.Falls.{away_out, away_none, away_forbidden, away_done}
+use Rattle.std.proofs.Common.{arith, sym, ◌∙◌}
+use Rattle.inner.proofs.Codes.{sound_form, sound_range, sound-sized}
+use Rattle.taking.proofs.Falls.{away-no-appointee, away-no-kind, away-no-appointer, away_none, exists, away_forbidden, away_done}
+use Rattle.taking.proofs.take_away.Goals.{then-certificate-ge-USERS-via-then-certificate-ge-USERS, then-certificate-ge-USERS-via-else-certificate-ge-USERS+then-from-policy, then-certificate-ge-USERS-via-else-certificate-ge-USERS+else-from-policy+then-certificate-ge-USERS-2}
 use Rattle.taking.proofs.take_away.Goals as goal
 
 pub returns-then-certificate-ge-USERS : goal.returns-then-certificate-ge-USERS
-returns-then-certificate-ge-USERS c = away_out c.args.rules.now c.args.kinds.now c.args.rights.now c.args.state.now c.requires c.args.certificate c.args.allowed c.refused.result c.refused.ensures 0 (le-ltb c.args.certificate.appointee 4096 c.if-certificate-ge-USERS.true)
+returns-then-certificate-ge-USERS c =
+    elim c.then-certificate-ge-USERS.branch [
+      | then-certificate-ge-USERS-via-then-certificate-ge-USERS w ↦ away-no-appointee _ _ _ _ c.requires c.args.certificate c.args.allowed w.if-certificate-ge-USERS.true
+      | then-certificate-ge-USERS-via-else-certificate-ge-USERS+then-from-policy w ↦ away-no-kind _ _ _ _ c.requires c.args.certificate c.args.allowed (omega (arith, w.from.ensures, w.if-from-policy.true))
+      | then-certificate-ge-USERS-via-else-certificate-ge-USERS+else-from-policy+then-certificate-ge-USERS-2 w ↦ away-no-appointer _ _ _ _ c.requires c.args.certificate c.args.allowed w.if-certificate-ge-USERS-2.true
+    ]
 
-pub returns-then-kinds-wide : goal.returns-then-kinds-wide
-returns-then-kinds-wide c = away_out c.args.rules.now c.args.kinds.now c.args.rights.now c.args.state.now c.requires c.args.certificate c.args.allowed c.refused-then-kinds-wide.result c.refused-then-kinds-wide.ensures 1 (no_kind_lem c.args.rules.now c.args.kinds.now c.args.rights.now c.args.certificate.kind (omega (arith, c.wide.ensures, c.if-kinds-wide.true)))
+pub find_certificate-requires : goal.find_certificate-requires
+find_certificate-requires c = sound-sized _ c.args.state.now c.requires
 
-pub returns-then-certificate-ge-USERS-2 : goal.returns-then-certificate-ge-USERS-2
-returns-then-certificate-ge-USERS-2 c = away_out c.args.rules.now c.args.kinds.now c.args.rights.now c.args.state.now c.requires c.args.certificate c.args.allowed c.refused-then-certificate-ge-USERS-2.result c.refused-then-certificate-ge-USERS-2.ensures 2 (le-ltb c.args.certificate.appointer 4096 c.if-certificate-ge-USERS-2.true)
-
-pub find_certificate-j-requires : goal.find_certificate-j-requires
-find_certificate-j-requires c = sound-sized _ c.args.state.now c.requires
-
-pub bounds-state-833 : goal.bounds-state-833
-bounds-state-833 c = omega (arith, (sound-sized _ c.args.state.now c.requires).size)
-
-pub returns-then-wide-j : goal.returns-then-wide-j
-returns-then-wide-j c = away_none c.args.rules.now c.args.kinds.now c.args.rights.now c.args.state.now c.requires c.args.certificate c.args.allowed c.if-certificate-ge-USERS.false (omega (arith, c.wide.ensures, c.if-kinds-wide.false)) c.if-certificate-ge-USERS-2.false c.find_certificate-j.result c.find_certificate-j.ensures c.refused-then-wide-j.result c.refused-then-wide-j.ensures (omega (arith, c.wide-2.ensures))
+pub returns-in_default : goal.returns-in_default
+returns-in_default c = away_none _ _ _ _ c.requires c.args.certificate c.args.allowed c.if-certificate-ge-USERS.false (omega (arith, c.from.ensures)) c.if-certificate-ge-USERS-2.false (sym c.in_default.is ∙ c.find_certificate.ensures)
 
 pub returns-then-not-allowed : goal.returns-then-not-allowed
-returns-then-not-allowed c = away_forbidden c.args.rules.now c.args.kinds.now c.args.rights.now c.args.state.now c.requires c.args.certificate c.args.allowed c.if-certificate-ge-USERS.false (omega (arith, c.wide.ensures, c.if-kinds-wide.false)) c.if-certificate-ge-USERS-2.false c.find_certificate-j.result c.find_certificate-j.ensures (omega (arith, c.wide-2.ensures)) c.refused-then-not-allowed.result c.refused-then-not-allowed.ensures c.if-not-allowed.true
+returns-then-not-allowed c =
+    away_forbidden _ _ _ _ c.requires c.args.certificate c.args.allowed c.if-certificate-ge-USERS.false (omega (arith, c.from.ensures)) c.if-certificate-ge-USERS-2.false c.in-Some.j (sym c.in-Some.is ∙ c.find_certificate.ensures) c.if-not-allowed.true
 
-pub take_certificate-second-requires : goal.take_certificate-second-requires
-take_certificate-second-requires c = (sound_form _ c.args.state.now c.requires, sound_range _ c.args.state.now c.requires, omega (arith, c.wide-2.ensures))
+pub take_certificate-requires : goal.take_certificate-requires
+take_certificate-requires c = (
+  sound_form _ c.args.state.now c.requires,
+  sound_range _ c.args.state.now c.requires,
+  exists _ _ _ _ c.requires c.args.certificate c.args.allowed c.if-certificate-ge-USERS.false (omega (arith, c.from.ensures)) c.if-certificate-ge-USERS-2.false c.in-Some.j (sym c.in-Some.is ∙ c.find_certificate.ensures),
+)
 
 pub returns : goal.returns
-returns c = away_done c.args.rules.now c.args.kinds.now c.args.rights.now c.args.state.now c.requires c.args.certificate c.args.allowed c.if-certificate-ge-USERS.false (omega (arith, c.wide.ensures, c.if-kinds-wide.false)) c.if-certificate-ge-USERS-2.false c.find_certificate-j.result c.find_certificate-j.ensures (omega (arith, c.wide-2.ensures)) _ _ c.if-not-allowed.false refl c.take_certificate-second.ensures
+returns c =
+    away_done _ _ _ _ c.requires c.args.certificate c.args.allowed c.if-certificate-ge-USERS.false (omega (arith, c.from.ensures)) c.if-certificate-ge-USERS-2.false c.in-Some.j (sym c.in-Some.is ∙ c.find_certificate.ensures) _ _ c.if-not-allowed.false c.take_certificate.ensures

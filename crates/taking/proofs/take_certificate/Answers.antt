@@ -17,5 +17,5 @@ fall-requires c = (
 
 pub returns : goal.returns
 returns c =
-    fallen_after c.args.rules.now c.args.kinds.now c.remove_certificate.new.state _ (with_certificates (decode c.args.state.now) (take c.args.j (decode c.args.state.now).certificates ++ drop (suc c.args.j) (decode c.args.state.now).certificates)) c.fall.result c.remove_certificate.ensures
+    fallen_after c.args.policy.rules.now c.args.policy.kinds.now c.remove_certificate.new.state _ (with_certificates (decode c.args.state.now) (take c.args.j (decode c.args.state.now).certificates ++ drop (suc c.args.j) (decode c.args.state.now).certificates)) c.fall.result c.remove_certificate.ensures
     (one_less_fits (decode c.args.state.now) c.args.j (decode-fits c.args.state.now (of_true (well_formed c.args.state.now) c.requires.0))) c.fall.ensures
