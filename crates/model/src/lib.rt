@@ -64,7 +64,7 @@ pub const CERTIFICATE_COUNT_AT: usize = 833;
 pub const CERTIFICATES_AT: usize = 834;
 
 // A row of the rules: "target role, n, m, then eight conditions".
-#[derive(Clone, Copy)]
+#[derive(Clone, Copy, Default)]
 pub struct Rule {
     pub target: u16,
     pub n: u16,
@@ -73,7 +73,7 @@ pub struct Rule {
 }
 
 // A row of the kinds: "appointer role, mode, s, then four prerequisite roles".
-#[derive(Clone, Copy)]
+#[derive(Clone, Copy, Default)]
 pub struct Kind {
     pub appointer: u16,
     pub mode: u16,
@@ -97,7 +97,7 @@ pub struct Row {
 }
 
 // A certificate row: "appointee, kind, appointer".
-#[derive(Clone, Copy)]
+#[derive(Clone, Copy, PartialEq, Eq)]
 pub struct Certificate {
     pub appointee: u16,
     pub kind: u16,
