@@ -5,68 +5,94 @@ use mathlib.Core.Logic.{◌≢◌, ◌⊎◌, inl, inr}
 use mathlib.Core.List.{List, [], ◌∷◌, ◌++◌}
 use native.Mathlib.Omega.{arith}
 use native.Mathlib.Numerals.{add-one}
-use lib.ListN.{length, get_or, set, take, drop, length-set}
+use lib.ListN.{length, get_or, set, take, drop, replicate, length-set}
 use lib.Seq.{get_or-set_same, get_or-set_other, take-set-lt, ext_get_or}
 use Rattle.model.specs.Values.{with_rows, with_certificates, with_fact}
-use Rattle.model.specs.Layout.{decode, encode, row_count, certificate_count, certificate_from, certificate_numbers}
+use Rattle.model.specs.Layout.{decode, encode, row_count, certificate_count, certificate_from, certificate_numbers, from_row, from_certificate}
 use Rattle.model.specs.declared.Row.{Row}
 use Rattle.model.specs.declared.Certificate.{Certificate}
-use Rattle.model.proofs.Tests.{lt_or_ge}
+use Rattle.std.proofs.Common.{rules}
+use Rattle.std.proofs.lemmas.List.{places}
+use borrow.Rule.Slice.PartMut.{put_mid}
+use Rattle.model.proofs.Tests.{lt_or_ge, repeated}
 use Rattle.table.specs.Entries.{row_at, first_rows, certificate_at, first_certificates}
 use Rattle.table.proofs.Entries.{entries_more, row_places, certificate_places, entry_in, length-entries, rows_more}
 use Rattle.table.specs.Writes.{Moved, Zeroed}
 use Rattle.table.proofs.Form.{three_at, make_row, make_certificate, Formed, as_encoded, facts-kept, certificates-kept, rows-kept, rows-first-same, certificate-same, certificates-first-same}
 use Rattle.change.specs.Appended.{Appended}
 
+-- ── numbers that are written over others, from a place on ──
+
+module _ (s ys : List ℕ) (a k : ℕ) (fits : a + k ≤ length s) (long : length ys ≡ k) where
+  written_size : length (put_mid a k s ys) ≡ length s
+  written_size = search (rules, places)
+
+  under : (i : ℕ) → i < a → get_or (put_mid a k s ys) i 0 ≡ get_or s i 0
+  under i h = search (rules, places)
+
+  written : (i : ℕ) → i < k → get_or (put_mid a k s ys) (a + i) 0 ≡ get_or ys i 0
+  written i h = search (rules, places)
+
+  over : (i : ℕ) → a + k ≤ i → get_or (put_mid a k s ys) i 0 ≡ get_or s i 0
+  over i h = search (rules, places)
+
+-- three zeros
+pub cleared : (s ys : List ℕ) (a k n : ℕ) → a + 3 ≤ length s → k ≡ 3 → length ys ≡ 3 → ys ≡ replicate n 0 → Zeroed s (put_mid a k s ys) a (a + 3)
+cleared s ys a k n fits three size e =
+    record {
+      size = written_size s ys a k (omega arith) long;
+      below = λ i h. under s ys a k (omega arith) long i h;
+      above = λ i h. over s ys a k (omega arith) long i (omega arith);
+      inside = λ i h l. inside i (i - a) (omega arith) (omega arith);
+    }
+  where
+    long : length ys ≡ k
+    long = size ∙ sym three
+
+    inside : (i j : ℕ) → a + j ≡ i → j < k → get_or (put_mid a k s ys) i 0 ≡ 0
+    inside i j p h = ap (λ (m : ℕ). get_or (put_mid a k s ys) m 0) (sym p) ∙ written s ys a k (omega arith) long j h ∙ ap (λ (l : List ℕ). get_or l j 0) e ∙ repeated 0 n j
+
 -- ── one entry more ──
 
-module _ (s : List ℕ) (at x y z : ℕ) (room : get_or s at 0 < 256) (fits : at + 769 ≤ length s) where
-  b : ℕ
-  b = get_or s at 0 * 3 + at
+-- as code writes it: the numbers, and then the count
+module _ (s entry : List ℕ) (at n k : ℕ) (e : n ≡ get_or s at 0) (three : k ≡ 3) (long : length entry ≡ 3) (room : get_or s at 0 < 256) (fits : at + 769 ≤ length s) where
+  abbrev b : ℕ
+  b = n * 3 + at + 1
 
-  three : List ℕ
-  three = set (set (set s (b + 1) x) (b + 2) y) (b + 3) z
+  abbrev w : List ℕ
+  w = put_mid b k s entry
 
-  three_size : length three ≡ length s
-  unfolding three
-  three_size = simp length-set
+  inner : b + k ≤ length s
+  inner = omega arith
 
-  -- outside the entry nothing changes
-  outside : (k : ℕ) → k ≢ b + 1 → k ≢ b + 2 → k ≢ b + 3 → get_or three k 0 ≡ get_or s k 0
-  unfolding three
-  outside k n₁ n₂ n₃ = get_or-set_other (set (set s (b + 1) x) (b + 2) y) (b + 3) k z 0 n₃ ∙ get_or-set_other (set s (b + 1) x) (b + 2) k y 0 n₂ ∙ get_or-set_other s (b + 1) k x 0 n₁
+  size : length w ≡ length s
+  size = written_size s entry b k inner (long ∙ sym three)
 
-  appended_at : Appended s (set three at (get_or s at 0 + 1)) at x y z
-  unfolding b three
-  appended_at =
+  earlier : (i : ℕ) → i < b → get_or w i 0 ≡ get_or s i 0
+  earlier i h = under s entry b k inner (long ∙ sym three) i h
+
+  other : (i : ℕ) → i ≢ at → get_or (set w at (get_or w at 0 + 1)) i 0 ≡ get_or w i 0
+  other i h = get_or-set_other w at i (get_or w at 0 + 1) 0 h
+
+  pub appended : Appended s (set w at (get_or w at 0 + 1)) at entry
+  appended =
       record {
-        size = length-set three at (get_or s at 0 + 1) ∙ three_size;
-        count = get_or-set_same three at (get_or s at 0 + 1) 0 (omega (arith, three_size));
-        first = other (b + 1) (omega arith) ∙ get_or-set_other (set (set s (b + 1) x) (b + 2) y) (b + 3) (b + 1) z 0 (omega arith) ∙ get_or-set_other (set s (b + 1) x) (b + 2) (b + 1) y 0 (omega arith) ∙ get_or-set_same s (b + 1) x 0 (omega arith);
-        second = other (b + 2) (omega arith) ∙ get_or-set_other (set (set s (b + 1) x) (b + 2) y) (b + 3) (b + 2) z 0 (omega arith) ∙ get_or-set_same (set s (b + 1) x) (b + 2) y 0 (simp length-set (omega arith));
-        third = other (b + 3) (omega arith) ∙ get_or-set_same (set (set s (b + 1) x) (b + 2) y) (b + 3) z 0 (simp length-set (omega arith));
-        below = λ k h. other k (omega arith) ∙ outside k (omega arith) (omega arith) (omega arith);
-        kept = λ k h l. other k (omega arith) ∙ outside k (omega arith) (omega arith) (omega arith);
-        above = λ k h. other k (omega arith) ∙ outside k (omega arith) (omega arith) (omega arith);
+        size = length-set w at (get_or w at 0 + 1) ∙ size;
+        count = get_or-set_same w at (get_or w at 0 + 1) 0 (omega (arith, size)) ∙ ap (λ (m : ℕ). m + 1) (earlier at (omega arith));
+        inside = λ i h. let p : get_or s at 0 * 3 + at + 1 + i ≡ b + i = omega arith in ap (λ (m : ℕ). get_or (set w at (get_or w at 0 + 1)) m 0) p ∙ other (b + i) (omega arith) ∙ written s entry b k inner (long ∙ sym three) i (omega arith);
+        below = λ i h. other i (omega arith) ∙ earlier i (omega arith);
+        kept = λ i h l. other i (omega arith) ∙ earlier i (omega arith);
+        above = λ i h. other i (omega arith) ∙ over s entry b k inner (long ∙ sym three) i (omega arith);
       }
-    where
-      other : (k : ℕ) → k ≢ at → get_or (set three at (get_or s at 0 + 1)) k 0 ≡ get_or three k 0
-      other k n = get_or-set_other three at k (get_or s at 0 + 1) 0 n
-
--- as code writes it, with the count read first
-pub appended : (s : List ℕ) (at n x y z : ℕ) → n ≡ get_or s at 0 → get_or s at 0 < 256 → at + 769 ≤ length s
-    → Appended s (set (set (set (set s (n * 3 + at + 1) x) (n * 3 + at + 2) y) (n * 3 + at + 3) z) at (n + 1)) at x y z
-unfolding b three
-appended s at n x y z e room fits = subst⁻¹ (λ (m : ℕ). Appended s (set (set (set (set s (m * 3 + at + 1) x) (m * 3 + at + 2) y) (m * 3 + at + 3) z) at (m + 1)) at x y z) e (appended_at s at x y z room fits)
 
 -- the three numbers behind the last entry, as what they make
-new_three : {A : Type 0} (make : ℕ → ℕ → ℕ → A) (s s' : List ℕ) (at x y z : ℕ) → Appended s s' at x y z → three_at make (at + 1) s' (get_or s at 0) ≡ make x y z
-new_three make s s' at x y z a = λ j. make ((place (get_or s at 0 * 3 + (at + 1)) (get_or s at 0 * 3 + at + 1) (omega arith) ∙ a.first) j) ((place (get_or s at 0 * 3 + (at + 1) + 1) (get_or s at 0 * 3 + at + 2) (omega arith) ∙ a.second) j) ((place (get_or s at 0 * 3 + (at + 1) + 2) (get_or s at 0 * 3 + at + 3) (omega arith) ∙ a.third) j)
+new_three : {A : Type 0} (make : ℕ → ℕ → ℕ → A) (s s' : List ℕ) (at x y z : ℕ) → Appended s s' at (x ∷ y ∷ z ∷ []) → three_at make (at + 1) s' (get_or s at 0) ≡ make x y z
+new_three make s s' at x y z a = λ j. make ((place (get_or s at 0 * 3 + (at + 1)) 0 (omega arith) ∙ a.inside 0 (omega arith)) j) ((place (get_or s at 0 * 3 + (at + 1) + 1) 1 (omega arith) ∙ a.inside 1 (omega arith)) j) ((place (get_or s at 0 * 3 + (at + 1) + 2) 2 (omega arith) ∙ a.inside 2 (omega arith)) j)
   where
-    place : (k m : ℕ) → k ≡ m → get_or s' k 0 ≡ get_or s' m 0
-    place k m e = ap (λ (n : ℕ). get_or s' n 0) e
+    place : (k i : ℕ) → k ≡ get_or s at 0 * 3 + at + 1 + i → get_or s' k 0 ≡ get_or s' (get_or s at 0 * 3 + at + 1 + i) 0
+    place k i e = ap (λ (n : ℕ). get_or s' n 0) e
 
-pub row_appended : (s s' : List ℕ) (r : Row) → Formed s → row_count s < 256 → Appended s s' 64 r.user r.role r.rule → s' ≡ encode (with_rows (decode s) ((decode s).rows ++ (r ∷ [])))
+pub row_appended : (s s' : List ℕ) (r : Row) → Formed s → row_count s < 256 → Appended s s' 64 (from_row r) → s' ≡ encode (with_rows (decode s) ((decode s).rows ++ (r ∷ [])))
 unfolding decode first_rows
 row_appended s s' r f room a = as_encoded s' (with_rows (decode s) ((decode s).rows ++ (r ∷ []))) form (λ j. record { facts = facts-kept s s' a.size (λ k h. a.below k h) j; rows = rows j; certificates = certificates-kept s s' a.size (λ k h. a.above k (omega arith)) j })
   where
@@ -87,7 +113,7 @@ row_appended s s' r f room a = as_encoded s' (with_rows (decode s) ((decode s).r
           certificates_end = λ k h. a.above k (omega arith) ∙ f.certificates_end k (omega (arith, a.above 833 (omega arith)));
         }
 
-pub certificate_appended : (s s' : List ℕ) (c : Certificate) → Formed s → certificate_count s < 256 → Appended s s' 833 c.appointee c.kind c.appointer → s' ≡ encode (with_certificates (decode s) ((decode s).certificates ++ (c ∷ [])))
+pub certificate_appended : (s s' : List ℕ) (c : Certificate) → Formed s → certificate_count s < 256 → Appended s s' 833 (from_certificate c) → s' ≡ encode (with_certificates (decode s) ((decode s).certificates ++ (c ∷ [])))
 unfolding decode first_certificates certificate_at
 certificate_appended s s' c f room a = as_encoded s' (with_certificates (decode s) ((decode s).certificates ++ (c ∷ []))) form (λ j. record { facts = facts-kept s s' a.size (λ k h. a.below k (omega arith)) j; rows = rows-kept s s' a.size (λ k h l. a.below k l) j; certificates = certificates j })
   where
@@ -121,19 +147,19 @@ without-place d (suc j) (x ∷ l) (y ∷ l') h e f g = λ i. f 0 (omega arith) i
 
 module _ (s m z : List ℕ) (j last : ℕ) (f : Formed s) (h : j < certificate_count s) (e : suc last ≡ certificate_count s) (moved : Moved s m (j * 3 + 834 + 3) (j * 3 + 834) (last * 3 + 834 - (j * 3 + 834))) (zeroed : Zeroed m z (last * 3 + 834) (last * 3 + 834 + 3)) where
   s' : List ℕ
-  s' = set z 833 last
+  s' = set z 833 (get_or z 833 0 - 1)
 
   gone_size : length s' ≡ length s
   unfolding s'
-  gone_size = length-set z 833 last ∙ zeroed.size ∙ moved.size
+  gone_size = length-set z 833 (get_or z 833 0 - 1) ∙ zeroed.size ∙ moved.size
 
   gone_other : (k : ℕ) → k ≢ 833 → get_or s' k 0 ≡ get_or z k 0
   unfolding s'
-  gone_other k n = get_or-set_other z 833 k last 0 n
+  gone_other k n = get_or-set_other z 833 k (get_or z 833 0 - 1) 0 n
 
   gone_count : certificate_count s' ≡ last
   unfolding s'
-  gone_count = get_or-set_same z 833 last 0 (omega (arith, zeroed.size, moved.size, f.size))
+  gone_count = get_or-set_same z 833 (get_or z 833 0 - 1) 0 (omega (arith, zeroed.size, moved.size, f.size)) ∙ omega (arith, zeroed.below 833 (omega arith), moved.below 833 (omega arith))
 
   low : (k : ℕ) → k < 833 → get_or s' k 0 ≡ get_or s k 0
   low k l = gone_other k (omega arith) ∙ zeroed.below k (omega arith) ∙ moved.below k (omega arith)
@@ -176,7 +202,7 @@ module _ (s m z : List ℕ) (j last : ℕ) (f : Formed s) (h : j < certificate_c
       at : (l : List ℕ) (n i : ℕ) → i < n → get_or (first_certificates l n) i none ≡ certificate_at l i
       at l n i k = entry_in certificate_from 3 (certificate_numbers l) n i none k
 
-  pub certificate_removed : set z 833 last ≡ encode (with_certificates (decode s) (take j (decode s).certificates ++ drop (suc j) (decode s).certificates))
+  pub certificate_removed : set z 833 (get_or z 833 0 - 1) ≡ encode (with_certificates (decode s) (take j (decode s).certificates ++ drop (suc j) (decode s).certificates))
   unfolding s' decode first_certificates
   certificate_removed =
       as_encoded s' (with_certificates (decode s) (take j (decode s).certificates ++ drop (suc j) (decode s).certificates)) form

@@ -10,21 +10,17 @@ ghost use Rattle.model.specs.Sound.{well_formed};
 ghost use Rattle.change.specs.Appended.{Appended};
 
 use model::{
-    CERTIFICATE_COUNT_AT, CERTIFICATE_WIDTH, CERTIFICATES_AT, Certificate, ROW_COUNT_AT, ROW_WIDTH,
-    Row,
+    CERTIFICATE_COUNT_AT, CERTIFICATE_WIDTH, CERTIFICATES_AT, Certificate, ROW_COUNT_AT, Row,
 };
 
 // The table that stands behind its count at a place has one entry more. Rows and certificates are three numbers each.
-fn append(state: &mut [u16], at: usize, x: u16, y: u16, z: u16)
+fn append(state: &mut [u16], at: usize, entry: [u16; 3])
     requires { (get_or state.old at 0 < 256) × (at + 769 ≤ length state.old) }
-    ensures { Appended state.old state.new at x y z }
+    ensures { Appended state.old state.new at entry }
 {
-    let n = table::wide(state[at]);
-    let b = n * ROW_WIDTH + at;
-    state[b + 1] = x;
-    state[b + 2] = y;
-    state[b + 3] = z;
-    state[at] = (n + 1) as u16;
+    let end = usize::from(state[at]) * 3 + at + 1;
+    state[end..end + 3].copy_from_slice(&entry);
+    state[at] += 1;
 }
 
 // One row more.
@@ -32,7 +28,8 @@ pub fn append_row(state: &mut [u16], row: Row)
     requires { (well_formed state.old ≡ true) × (row_count state.old < most_rows) }
     ensures { state.new ≡ encode (with_rows (decode state.old) ((decode state.old).rows ++ (row ∷ []))) }
 {
-    append(state, ROW_COUNT_AT, row.user, row.role, row.rule);
+    let Row { user, role, rule } = row;
+    append(state, ROW_COUNT_AT, [user, role, rule]);
 }
 
 // One certificate more.
@@ -40,13 +37,12 @@ pub fn append_certificate(state: &mut [u16], certificate: Certificate)
     requires { (well_formed state.old ≡ true) × (certificate_count state.old < most_certificates) }
     ensures { state.new ≡ encode (with_certificates (decode state.old) ((decode state.old).certificates ++ (certificate ∷ []))) }
 {
-    append(
-        state,
-        CERTIFICATE_COUNT_AT,
-        certificate.appointee,
-        certificate.kind,
-        certificate.appointer,
-    );
+    let Certificate {
+        appointee,
+        kind,
+        appointer,
+    } = certificate;
+    append(state, CERTIFICATE_COUNT_AT, [appointee, kind, appointer]);
 }
 
 // Certificate j goes, and those behind it close the gap.
@@ -54,13 +50,12 @@ pub fn remove_certificate(state: &mut [u16], j: usize)
     requires { (well_formed state.old ≡ true) × (j < certificate_count state.old) }
     ensures { state.new ≡ encode (with_certificates (decode state.old) (take j (decode state.old).certificates ++ drop (suc j) (decode state.old).certificates)) }
 {
-    let n = table::wide(state[CERTIFICATE_COUNT_AT]);
-    let last = n - 1;
-    let b = j * CERTIFICATE_WIDTH + CERTIFICATES_AT;
-    let e = last * CERTIFICATE_WIDTH + CERTIFICATES_AT;
-    table::move_down(state, b + CERTIFICATE_WIDTH, b, e - b);
-    table::zero(state, e, e + CERTIFICATE_WIDTH);
-    state[CERTIFICATE_COUNT_AT] = last as u16;
+    let last = usize::from(state[CERTIFICATE_COUNT_AT]) - 1;
+    let gap = j * CERTIFICATE_WIDTH + CERTIFICATES_AT;
+    let end = last * CERTIFICATE_WIDTH + CERTIFICATES_AT;
+    state.copy_within(gap + CERTIFICATE_WIDTH..end + CERTIFICATE_WIDTH, gap);
+    state[end..end + CERTIFICATE_WIDTH].fill(0);
+    state[CERTIFICATE_COUNT_AT] -= 1;
 }
 
 // The fact has the value.

@@ -1,18 +1,18 @@
 -- Holding by marks: what code reads of it. That it is holding where they are a user's own marks is in Owning.
-use Prim.Native.Nat.{ℕ, ◌+◌, min}
+use Prim.Native.Nat.{ℕ, ◌+◌}
 use mathlib.Core.Path.{◌≡◌, refl, sym, ap, ◌∙◌}
 use mathlib.Core.Bool.{Bool, true, false, ◌&&◌}
 use mathlib.Core.List.{List, []}
 use lib.Dec.{eqb}
-use lib.ListN.{length, get_or, take}
+use lib.ListN.{get_or}
 use Rattle.model.specs.Lists.{all}
 use Rattle.model.specs.Values.{Policy, State, world_of}
 use Rattle.model.specs.Layout.{policy_of, decode}
-use Rattle.model.specs.Conditions.{Condition, role, kind, fact, malformed, meant, activating, membership, prerequisite_roles, kind_numbered, rule_numbered, no_kind}
+use Rattle.model.specs.Conditions.{Condition, role, kind, fact, malformed, meant, activating, membership, prerequisite_roles, rule_numbered, no_kind}
 use Rattle.model.specs.declared.Rule.{Rule}
 use Rattle.model.specs.declared.Kind.{Kind}
+use Rattle.model.specs.declared.Row.{Row}
 use Rattle.table.specs.Entries.{without_rights, world_at}
-use Rattle.table.proofs.Entries.{take-least}
 use Rattle.marks.specs.Marked.{role_marked, holds_by, all_hold_by, supported_by, satisfied_by}
 
 -- ── what is not read: of the policy, only the kinds ──
@@ -24,35 +24,15 @@ by_same marked p₁ p₂ t e (kind k) = ap (λ (ks : List Kind). marked (256 + k
 by_same marked p₁ p₂ t e (fact f) = refl
 by_same marked p₁ p₂ t e malformed = refl
 
--- ── a row of a table, read as far as its count says ──
-
--- the kind's prerequisite roles
-pub prerequisites_marked : (marked : ℕ → Bool) (p : Policy) (k n : ℕ) (row : Kind) (stands r : Bool) → stands ≡ true → row ≡ kind_numbered p k → length row.prerequisites ≡ 4 → n ≡ min row.s 4 → r ≡ all (role_marked marked) (take n row.prerequisites)
-    → r ≡ (stands && all (role_marked marked) (prerequisite_roles (kind_numbered p k)))
-prerequisites_marked marked p k n row stands r e read size least h =
-    h
-    ∙ ap (λ (m : ℕ). all (role_marked marked) (take m row.prerequisites)) least
-    ∙ ap (all (role_marked marked)) (take-least row.s 4 row.prerequisites size)
-    ∙ ap (λ (x : Kind). all (role_marked marked) (prerequisite_roles x)) read
-    ∙ ap (λ (b : Bool). b && all (role_marked marked) (prerequisite_roles (kind_numbered p k))) (sym e)
-
--- the first n conditions of a rule, judged by the kinds alone
-pub first_by : (marked : ℕ → Bool) (kinds s : List ℕ) (n m : ℕ) (cs : List ℕ) (r : Bool) → length cs ≡ 8 → n ≡ min m 8
-    → r ≡ all_hold_by marked (world_at [] kinds s) (take n cs) → r ≡ all_hold_by marked (world_at [] kinds s) (take m cs)
-first_by marked kinds s n m cs r size least h =
-    h
-    ∙ ap (λ (k : ℕ). all_hold_by marked (world_at [] kinds s) (take k cs)) least
-    ∙ ap (λ (l : List ℕ). all_hold_by marked (world_at [] kinds s) l) (take-least m 8 cs size)
-
 module _ (marked : ℕ → Bool) (rules kinds s : List ℕ) where
   any-rules : (cs : List ℕ) → all_hold_by marked (world_at [] kinds s) cs ≡ all_hold_by marked (world_at rules kinds s) cs
   unfolding policy_of
   any-rules cs = λ i. all (λ (c : ℕ). by_same marked (policy_of (without_rights [] kinds)) (policy_of (without_rights rules kinds)) (decode s) refl (meant c) i) cs
 
-  pub membership_by : (n : ℕ) (rule : Rule) (u q i : ℕ) (r : Bool) → rule ≡ rule_numbered (policy_of (without_rights rules [])) i → length rule.conditions ≡ 8 → n ≡ min rule.m 8
-      → r ≡ all_hold_by marked (world_at [] kinds s) (take n rule.conditions) → r ≡ supported_by marked (world_at rules kinds s) (record { user = u; role = q; rule = i })
+  -- the membership conditions of a row's own rule, judged by the kinds alone
+  pub membership_by : (row : Row) (rule : Rule) (r : Bool) → rule ≡ rule_numbered (policy_of (without_rights rules [])) row.rule → r ≡ all_hold_by marked (world_at [] kinds s) (membership rule) → r ≡ supported_by marked (world_at rules kinds s) row
   unfolding supported_by policy_of
-  membership_by n rule u q i r e size least h = first_by marked kinds s n rule.m rule.conditions r size least h ∙ any-rules (membership rule) ∙ ap (λ (x : Rule). all_hold_by marked (world_at rules kinds s) (membership x)) e
+  membership_by row rule r e h = h ∙ any-rules (membership rule) ∙ ap (λ (x : Rule). all_hold_by marked (world_at rules kinds s) (membership x)) e
 
   -- a rule for another role is not satisfied, and one for the role is if its conditions hold
   pub another_by : (q : ℕ) (rule read : Rule) → read ≡ rule → eqb read.target q ≡ false → false ≡ satisfied_by marked (world_at rules kinds s) q rule

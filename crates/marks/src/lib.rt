@@ -3,19 +3,16 @@
 
 #![tactic(auto)]
 
-ghost use Rattle.std.specs.Prelude.{◌≡◌, false, ◌&&◌, [], ◌+◌, ◌<◌, ◌≤◌, eqb, length, get_or, take, replicate};
+ghost use Rattle.std.specs.Prelude.{◌≡◌, false, ◌&&◌, [], ◌+◌, ◌<◌, length, replicate};
 ghost use Rattle.model.specs.Lists.{all};
 ghost use Rattle.model.specs.Limits.{most_kinds};
-ghost use Rattle.model.specs.Layout.{decode, policy_of, fact_numbers};
+ghost use Rattle.model.specs.Layout.{decode, policy_of};
 ghost use Rattle.model.specs.Conditions.{meant, activating, prerequisite_roles, kind_numbered};
 ghost use Rattle.table.specs.Entries.{world_at, without_rights, Sized};
 ghost use Rattle.marks.specs.Marked.{own_marks, has, role_marked, holds_by, all_hold_by, supported_by};
 ghost use Rattle.marks.specs.Owned.{InRange, Own};
 
-use model::{
-    CERTIFICATE_COUNT_AT, FACTS_END, FIRST_FACT, FIRST_KIND, FIRST_MALFORMED, Lent,
-    MOST_CONDITIONS, MOST_PREREQUISITES, ROLES, ROW_COUNT_AT, Row, Rule,
-};
+use model::{CERTIFICATE_COUNT_AT, Condition, Lent, ROLES, ROW_COUNT_AT, Row, Rule};
 
 // How many marks a user has, and from which on they are kinds.
 pub const OWN_MARKS: usize = 384;
@@ -27,18 +24,15 @@ pub fn role_marked(own: &[bool], role: u16) -> bool
     requires { length own.now ≡ own_marks }
     ensures { result ≡ role_marked (has own.now) role }
 {
-    if role < ROLES {
-        return own[table::wide(role)];
-    }
-    false
+    role < ROLES && own[usize::from(role)]
 }
 
-// The first n of the roles are marked.
-fn all_marked(own: &[bool], roles: [u16; 4], n: usize) -> bool
-    requires { (length own.now ≡ own_marks) × (n ≤ 4) }
-    ensures { result ≡ all (role_marked (has own.now)) (take n roles) }
+// The roles are all marked.
+fn all_marked(own: &[bool], roles: &[u16]) -> bool
+    requires { length own.now ≡ own_marks }
+    ensures { result ≡ all (role_marked (has own.now)) roles.now }
 {
-    roles[..n].iter().all(|role| role_marked(own, *role))
+    roles.iter().all(|role| role_marked(own, *role))
 }
 
 // A certificate of the kind stands, and the kind's prerequisite roles are marked.
@@ -46,63 +40,31 @@ fn kind_holds(kinds: &[u16], own: &[bool], kind: u16) -> bool
     requires { (length own.now ≡ own_marks) × (kind < most_kinds) }
     ensures { result ≡ (has own.now (256 + kind) && all (role_marked (has own.now)) (prerequisite_roles (kind_numbered (policy_of (without_rights [] kinds.now)) kind))) }
 {
-    if !own[KINDS_AT + table::wide(kind)] {
-        return false;
-    }
-    let row = table::kind_numbered(kinds, table::wide(kind));
-    let roles = row.prerequisites;
-    let n = table::least(table::wide(row.s), MOST_PREREQUISITES);
-    all_marked(own, roles, n)
-}
-
-// The fact is 1.
-fn fact_holds(state: &[u16], fact: u16) -> bool
-    requires { Sized state.now }
-    ensures { result ≡ eqb (get_or (fact_numbers state.now) fact 0) 1 }
-{
-    let at = table::wide(fact);
-    if at < FACTS_END {
-        return state[at] == 1;
-    }
-    false
+    let kind = usize::from(kind);
+    own[KINDS_AT + kind] && all_marked(own, table::kind_numbered(kinds, kind).prerequisite_roles())
 }
 
 // The condition holds by the marks.
-fn condition_holds(kinds: &[u16], state: &[u16], own: &[bool], c: u16) -> bool
+fn condition_holds(kinds: &[u16], state: &[u16], own: &[bool], number: u16) -> bool
     requires { Sized state.now × (length own.now ≡ own_marks) }
-    ensures { result ≡ holds_by (has own.now) (world_at [] kinds.now state.now) (meant c) }
+    ensures { result ≡ holds_by (has own.now) (world_at [] kinds.now state.now) (meant number) }
 {
-    if c < FIRST_KIND {
-        return role_marked(own, c);
+    match Condition::from(number) {
+        Condition::Role(role) => role_marked(own, role),
+        Condition::Kind(kind) => kind_holds(kinds, own, kind),
+        Condition::Fact(fact) => state[usize::from(fact)] == 1,
+        Condition::Malformed => false,
     }
-    if c < FIRST_FACT {
-        return kind_holds(kinds, own, c - FIRST_KIND);
-    }
-    if c < FIRST_MALFORMED {
-        return fact_holds(state, c - FIRST_FACT);
-    }
-    false
 }
 
-// The first n of the conditions hold by the marks.
-fn all_conditions_hold(
-    kinds: &[u16],
-    state: &[u16],
-    own: &[bool],
-    conditions: [u16; 8],
-    n: usize,
-) -> bool
-    requires { Sized state.now × (length own.now ≡ own_marks) × (n ≤ 8) }
-    ensures { result ≡ all_hold_by (has own.now) (world_at [] kinds.now state.now) (take n conditions) }
+// The conditions all hold by the marks.
+fn all_conditions_hold(kinds: &[u16], state: &[u16], own: &[bool], conditions: &[u16]) -> bool
+    requires { Sized state.now × (length own.now ≡ own_marks) }
+    ensures { result ≡ all_hold_by (has own.now) (world_at [] kinds.now state.now) conditions.now }
 {
-    let mut j: usize = 0;
-    while j < n {
-        if !condition_holds(kinds, state, own, conditions[j]) {
-            return false;
-        }
-        j += 1;
-    }
-    true
+    conditions
+        .iter()
+        .all(|number| condition_holds(kinds, state, own, *number))
 }
 
 // The membership conditions of the row's own rule hold by its user's own marks.
@@ -110,10 +72,8 @@ pub fn row_supported(policy: Lent, state: &[u16], own: &[bool], row: Row) -> boo
     requires { Sized state.now × (length own.now ≡ own_marks) }
     ensures { result ≡ supported_by (has own.now) (world_at policy.entry.rules.now policy.entry.kinds.now state.now) row }
 {
-    let rule = table::rule_numbered(policy.rules, table::wide(row.rule));
-    let conditions = rule.conditions;
-    let n = table::least(table::wide(rule.m), MOST_CONDITIONS);
-    all_conditions_hold(policy.kinds, state, own, conditions, n)
+    let rule = table::rule_numbered(policy.rules, usize::from(row.rule));
+    all_conditions_hold(policy.kinds, state, own, rule.membership())
 }
 
 // The rule's conditions all hold by the marks.
@@ -121,9 +81,7 @@ pub fn rule_holds(kinds: &[u16], state: &[u16], own: &[bool], rule: Rule) -> boo
     requires { Sized state.now × (length own.now ≡ own_marks) }
     ensures { result ≡ all_hold_by (has own.now) (world_at [] kinds.now state.now) (activating rule) }
 {
-    let conditions = rule.conditions;
-    let n = table::least(table::wide(rule.n), MOST_CONDITIONS);
-    all_conditions_hold(kinds, state, own, conditions, n)
+    all_conditions_hold(kinds, state, own, rule.activating())
 }
 
 // The roles that the user is active in are marked.
@@ -131,29 +89,24 @@ pub fn mark_roles(state: &[u16], user: u16, own: &mut [bool])
     requires { InRange state.now × (own.old ≡ replicate own_marks false) }
     ensures { Own user own.new (decode state.now).rows [] }
 {
-    let n = table::wide(state[ROW_COUNT_AT]);
-    let mut i: usize = 0;
-    while i < n {
+    for i in 0..usize::from(state[ROW_COUNT_AT]) {
         let row = table::row_at(state, i);
-        i += 1;
         if row.user == user {
-            own[table::wide(row.role)] = true;
+            own[usize::from(row.role)] = true;
         }
     }
 }
 
-// The kinds that stand for the user are marked.
+// The kinds that stand for the user are marked. A row and a certificate lie in different tables, and differ in whom they are for and in
+// what they mark: a function for both would be passed all of it, and its body is four lines.
 pub fn mark_kinds(state: &[u16], user: u16, own: &mut [bool])
     requires { InRange state.now × Own user own.old (decode state.now).rows [] }
     ensures { Own user own.new (decode state.now).rows (decode state.now).certificates }
 {
-    let n = table::wide(state[CERTIFICATE_COUNT_AT]);
-    let mut j: usize = 0;
-    while j < n {
-        let certificate = table::certificate_at(state, j);
-        j += 1;
+    for i in 0..usize::from(state[CERTIFICATE_COUNT_AT]) {
+        let certificate = table::certificate_at(state, i);
         if certificate.appointee == user {
-            own[KINDS_AT + table::wide(certificate.kind)] = true;
+            own[KINDS_AT + usize::from(certificate.kind)] = true;
         }
     }
 }

@@ -9,6 +9,7 @@ pub mod Effective
 pub mod Chain
 pub mod Outcome
 pub mod Answered
+pub mod Meant
 pub mod Calls
 pub mod Withdrawals
 pub mod Held

@@ -3,7 +3,9 @@
 #![tactic(auto)]
 
 ghost use Rattle.std.specs.Prelude.{◌≡◌};
+ghost use Rattle.model.specs.Conditions.{meant, activating, membership, prerequisite_roles};
 ghost use Rattle.model.specs.Answered.{code_of, code, second};
+ghost use Rattle.model.specs.Meant.{condition_of};
 
 // "Users 0 to 4,095; roles 0 to 255; privileges 0 to 1,023; environment facts 0 to 63."
 pub const USERS: u16 = 4096;
@@ -64,7 +66,7 @@ pub const CERTIFICATE_COUNT_AT: usize = 833;
 pub const CERTIFICATES_AT: usize = 834;
 
 // A row of the rules: "target role, n, m, then eight conditions".
-#[derive(Clone, Copy)]
+#[derive(Clone, Copy, Default)]
 pub struct Rule {
     pub target: u16,
     pub n: u16,
@@ -72,13 +74,38 @@ pub struct Rule {
     pub conditions: [u16; 8],
 }
 
+impl Rule {
+    // The activating conditions are the first n.
+    pub fn activating(&self) -> &[u16]
+        ensures { result.now ≡ activating self.now }
+    {
+        &self.conditions[..usize::from(self.n).min(MOST_CONDITIONS)]
+    }
+
+    // "The first m conditions are the membership rule."
+    pub fn membership(&self) -> &[u16]
+        ensures { result.now ≡ membership self.now }
+    {
+        &self.conditions[..usize::from(self.m).min(MOST_CONDITIONS)]
+    }
+}
+
 // A row of the kinds: "appointer role, mode, s, then four prerequisite roles".
-#[derive(Clone, Copy)]
+#[derive(Clone, Copy, Default)]
 pub struct Kind {
     pub appointer: u16,
     pub mode: u16,
     pub s: u16,
     pub prerequisites: [u16; 4],
+}
+
+impl Kind {
+    // The prerequisite roles are the first s.
+    pub fn prerequisite_roles(&self) -> &[u16]
+        ensures { result.now ≡ prerequisite_roles self.now }
+    {
+        &self.prerequisites[..usize::from(self.s).min(MOST_PREREQUISITES)]
+    }
 }
 
 // A row of the rights: "role, privilege".
@@ -97,11 +124,34 @@ pub struct Row {
 }
 
 // A certificate row: "appointee, kind, appointer".
-#[derive(Clone, Copy)]
+#[derive(Clone, Copy, PartialEq, Eq)]
 pub struct Certificate {
     pub appointee: u16,
     pub kind: u16,
     pub appointer: u16,
+}
+
+// What the number of a condition means: a role, a certificate of a kind, or an environment fact, each by its own number.
+#[derive(Clone, Copy)]
+pub enum Condition {
+    Role(u16),
+    Kind(u16),
+    Fact(u16),
+    Malformed,
+}
+
+impl From<u16> for Condition {
+    ghost from_gives = { λ number condition. condition_of condition ≡ meant number };
+
+    #[tactic(auto, unfolding(crate::specs::Conditions::meant))]
+    fn from(number: u16) -> Condition {
+        match number {
+            0..FIRST_KIND => Condition::Role(number),
+            FIRST_KIND..FIRST_FACT => Condition::Kind(number - FIRST_KIND),
+            FIRST_FACT..FIRST_MALFORMED => Condition::Fact(number - FIRST_FACT),
+            FIRST_MALFORMED.. => Condition::Malformed,
+        }
+    }
 }
 
 // The policy's tables, as a caller lends them: "All tables are lent 16-bit numbers."

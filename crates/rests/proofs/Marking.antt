@@ -9,13 +9,14 @@ use native.Mathlib.Omega.{arith}
 use lib.Dec.{eqb}
 use borrow.Author.Tests.{eqb-true, eqb-false}
 use lib.ListN.{length, get_or, take, set, length-set, length-take}
-use lib.Seq.{get_or-set_same, get_or-set_other, get_or-take}
+use lib.Seq.{get_or-set_same, get_or-set_other, get_or-take, take_all}
 use Rattle.model.specs.Layout.{policy_of}
 use Rattle.model.specs.Conditions.{meant, roles_asked}
-use Rattle.model.proofs.Tests.{lt_or_ge, among_first, place_of}
+use Rattle.model.proofs.Tests.{lt_or_ge, at_place, place_of}
 use Rattle.table.specs.Entries.{without_rights}
 use Rattle.rests.specs.Asked.{HasAsked, AskedThrough, Grown, ConditionAsked, Known, RowAsked}
-use Rattle.rests.proofs.Asking.{asked-role, asked-none}
+use Rattle.rests.proofs.Asking.{asked-role}
+use Rattle.model.proofs.Meaning.{meant-role}
 
 -- ── one mark more ──
 
@@ -50,7 +51,7 @@ module _ (kinds : List ℕ) where
   role-asked a c w size e l h =
       record {
         grown = record { size = length-set a w true; closed = closed; keeps = mark_keeps a w inside; only = λ q k m. only q (mark_only a w inside q m) };
-        answered = λ q k m. mark_here a w inside q (e ∙ sym (Memᴰ.eq_of_singleton (subst⁻¹ (Memᴰ q) (asked-role kinds c l) m)));
+        answered = λ q k m. mark_here a w inside q (e ∙ sym (Memᴰ.eq_of_singleton (subst⁻¹ (Memᴰ q) (asked-role kinds c c (sym (meant-role c l))) m)));
       }
     where
       inside : w < length a
@@ -64,15 +65,15 @@ module _ (kinds : List ℕ) where
       closed d k m = answered-keeps a (set a w true) d (mark_keeps a w inside) (h d k (old d k (mark_only a w inside d m)))
 
       only : (q : ℕ) → (w ≡ q) ⊎ (get_or a q false ≡ true) → (get_or a q false ≡ true) ⊎ ((j : ℕ) × (j < 1) × Memᴰ q (roles_asked (policy_of (without_rights [] kinds)) (meant (get_or (c ∷ []) j 0))))
-      only q (inl z) = inr (0, omega arith, subst (Memᴰ q) (asked-role kinds c l) (Memᴰ.head (sym z ∙ e)))
+      only q (inl z) = inr (0, omega arith, subst (Memᴰ q) (asked-role kinds c c (sym (meant-role c l))) (Memᴰ.head (sym z ∙ e)))
       only q (inr z) = inl z
 
   -- a condition that asks for nothing more
   nothing_added : (a : List Bool) (c : ℕ) → AskedThrough kinds a → HasAsked kinds a c → ConditionAsked kinds a a c
   nothing_added a c h k = record { grown = grown-none a (c ∷ []) 1 h; answered = k }
 
-  fact-answered : (a : List Bool) (c : ℕ) → 384 ≤ c → HasAsked kinds a c
-  fact-answered a c l q k m = absurd (Memᴰ.not-nil (subst⁻¹ (Memᴰ q) (asked-none kinds c l) m))
+  none-answered : (a : List Bool) (c : ℕ) → [] ≡ roles_asked (policy_of (without_rights [] kinds)) (meant c) → HasAsked kinds a c
+  none-answered a c e q k m = absurd (Memᴰ.not-nil (subst⁻¹ (Memᴰ q) e m))
 
   -- ── condition by condition ──
 
@@ -128,8 +129,8 @@ module _ (a : List Bool) (c : ℕ) where
       let at : r ≡ get_or a c false = f ∙ ap (λ (n : ℕ). get_or a n false) e in
       record { known = λ z kinds h. nothing_added kinds a c h (h c k (sym at ∙ z)); unknown = λ z. (refl, k, l) }
 
-  pub known-fact : 384 ≤ c → Known a a c true
-  known-fact l = record { known = λ z kinds h. nothing_added kinds a c h (fact-answered kinds a c l); unknown = λ z. absurd (true≢false z) }
+  pub known-none : ((kinds : List ℕ) → [] ≡ roles_asked (policy_of (without_rights [] kinds)) (meant c)) → Known a a c true
+  known-none e = record { known = λ z kinds h. nothing_added kinds a c h (none-answered kinds a c (e kinds)); unknown = λ z. absurd (true≢false z) }
 
 -- ── a kind, role by role ──
 
@@ -178,8 +179,8 @@ module _ (a b : List Bool) (roles : List ℕ) (j q : ℕ) (e : q ≡ get_or role
       each i o m (inr k) = let at : i ≡ j = omega arith in absurd (omega (arith, e, ap (λ (n : ℕ). get_or roles n 0) at))
 
 -- all of its roles, and then its own mark
-pub kind_marked : (kinds : List ℕ) (a b : List Bool) (roles : List ℕ) (n j c w : ℕ) → length a ≡ 384 → length roles ≡ 4 → n ≤ 4 → take n roles ≡ roles_asked (policy_of (without_rights [] kinds)) (meant c) → j ≡ n → w ≡ c → 256 ≤ c → c < 384 → AskedThrough kinds a → RolesMarked a b roles j → ConditionAsked kinds a (set b w true) c
-kind_marked kinds a b roles n j c w size four few e all z k l h g =
+pub kind_marked : (kinds : List ℕ) (a b : List Bool) (roles : List ℕ) (j c w : ℕ) → length a ≡ 384 → roles ≡ roles_asked (policy_of (without_rights [] kinds)) (meant c) → j ≡ length roles → w ≡ c → 256 ≤ c → c < 384 → AskedThrough kinds a → RolesMarked a b roles j → ConditionAsked kinds a (set b w true) c
+kind_marked kinds a b roles j c w size e all z k l h g =
     record {
       grown = record { size = length-set b w true ∙ g.size; closed = closed; keeps = λ d m. mark_keeps b w inside d (g.keeps d m); only = λ q m o. only q m (mark_only b w inside q o) };
       answered = λ q m o. mark_keeps b w inside q (answered q m o);
@@ -189,14 +190,10 @@ kind_marked kinds a b roles n j c w size four few e all z k l h g =
     inside = omega (arith, size, g.size)
 
     answered : HasAsked kinds b c
-    answered q m o = here (place_of (take n roles) 0 q (subst⁻¹ (Memᴰ q) e o))
+    answered q m o = here (place_of roles 0 q (subst⁻¹ (Memᴰ q) e o))
       where
-        here : (i : ℕ) × (i < length (take n roles)) × (q ≡ get_or (take n roles) i 0) → get_or b q false ≡ true
-        here p =
-            let count : length (take n roles) ≡ n = simp length-take (omega arith) in
-            let within : p.0 < n = omega (arith, count, p.1) in
-            let at : q ≡ get_or roles p.0 0 = p.2 ∙ get_or-take n roles p.0 0 within in
-            subst⁻¹ (λ (x : ℕ). get_or b x false ≡ true) at (g.each p.0 (omega (arith, within)) (subst (λ (x : ℕ). x < 256) at m))
+        here : (i : ℕ) × (i < length roles) × (q ≡ get_or roles i 0) → get_or b q false ≡ true
+        here p = subst⁻¹ (λ (x : ℕ). get_or b x false ≡ true) p.2 (g.each p.0 (omega (arith, p.1)) (subst (λ (x : ℕ). x < 256) p.2 m))
 
     closed : AskedThrough kinds (set b w true)
     closed d m o = go (mark_only b w inside d o)
@@ -212,22 +209,31 @@ kind_marked kinds a b roles n j c w size four few e all z k l h g =
         named : (get_or a q false ≡ true) ⊎ ((i : ℕ) × (i < j) × (q ≡ get_or roles i 0)) → (get_or a q false ≡ true) ⊎ ((i : ℕ) × (i < 1) × Memᴰ q (roles_asked (policy_of (without_rights [] kinds)) (meant (get_or (c ∷ []) i 0))))
         named (inl y) = inl y
         named (inr y) =
-            let within : y.0 < n = omega (arith, y.1) in
-            inr (0, omega arith, subst (Memᴰ q) e (subst⁻¹ (λ (x : ℕ). Memᴰ x (take n roles)) y.2 (among_first roles n y.0 0 within (omega (arith, four, within)))))
+            let within : y.0 < length roles = omega (arith, y.1) in
+            inr (0, omega arith, subst (Memᴰ q) e (subst⁻¹ (λ (x : ℕ). Memᴰ x roles) y.2 (at_place roles y.0 0 within)))
 
 -- a condition that was not known is a kind, which asks
-pub asked_then : (kinds : List ℕ) (a b d : List Bool) (c : ℕ) → b ≡ a → ConditionAsked kinds b d c → ConditionAsked kinds a d c
-asked_then kinds a b d c e h = subst (λ (x : List Bool). ConditionAsked kinds x d c) e h
+pub asked_then : (kinds : List ℕ) (a b d : List Bool) (c e : ℕ) → b ≡ a → e ≡ c → ConditionAsked kinds b d e → ConditionAsked kinds a d c
+asked_then kinds a b d c e p q h = subst (λ (n : ℕ). ConditionAsked kinds a d n) q (subst (λ (x : List Bool). ConditionAsked kinds x d e) p h)
 
 -- ── a row's conditions, up to the first that is not known or to the end ──
 
-module _ (a b : List Bool) (cs ms : List ℕ) (i m : ℕ) (own : take m cs ≡ ms) (few : m ≤ length cs) where
-  pub row-left : (d : List Bool) → d ≡ b → i ≤ m → ((kinds : List ℕ) → AskedThrough kinds a → Grown kinds a b cs i × ((j : ℕ) → j < i → HasAsked kinds b (get_or cs j 0))) → RowAsked ms a d false
-  row-left d e l h = record { grown = λ kinds c. subst⁻¹ (λ (x : List Bool). Grown kinds a x ms (length ms)) e (grown-within kinds a b cs ms i m own l few (h kinds c).0); each = λ z. absurd (true≢false (sym z)) }
+-- the first i of the conditions have asked
+abbrev pub AskedSoFar : List Bool → List Bool → List ℕ → ℕ → Type 0
+AskedSoFar a b ms i = (kinds : List ℕ) → AskedThrough kinds a → Grown kinds a b ms i × ((j : ℕ) → j < i → HasAsked kinds b (get_or ms j 0))
 
-  pub row-asked : i ≡ m → ((kinds : List ℕ) → AskedThrough kinds a → Grown kinds a b cs i × ((j : ℕ) → j < i → HasAsked kinds b (get_or cs j 0))) → RowAsked ms a b true
-  row-asked e h =
+module _ (a b : List Bool) (ms : List ℕ) (i : ℕ) (h : AskedSoFar a b ms i) where
+  pub asked-next : (d : List Bool) (c : ℕ) → c ≡ get_or ms i 0 → Known b d c true → AskedSoFar a d ms (i + 1)
+  asked-next d c e k kinds t =
+      let one : ConditionAsked kinds b d c = k.known refl kinds (h kinds t).0.closed in
+      (grown-next kinds a b d ms i c e (h kinds t).0 one, each_next kinds b d ms i c e (h kinds t).1 one)
+
+  pub row-left : (d : List Bool) → d ≡ b → i ≤ length ms → RowAsked ms a d false
+  row-left d e l = record { grown = λ kinds c. subst⁻¹ (λ (x : List Bool). Grown kinds a x ms (length ms)) e (grown-within kinds a b ms ms i (length ms) (take_all (length ms) ms (omega arith)) l (omega arith) (h kinds c).0); each = λ z. absurd (true≢false (sym z)) }
+
+  pub row-asked : i ≡ length ms → RowAsked ms a b true
+  row-asked e =
       record {
-        grown = λ kinds c. grown-within kinds a b cs ms i m own (omega arith) few (h kinds c).0;
-        each = λ z kinds c. each_within kinds b cs ms m own few (λ j l. (h kinds c).1 j (omega arith));
+        grown = λ kinds c. subst (Grown kinds a b ms) e (h kinds c).0;
+        each = λ z kinds c j l. (h kinds c).1 j (omega arith);
       }

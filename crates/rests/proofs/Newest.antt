@@ -1,34 +1,48 @@
 -- The newest row of a role: what code finds from the last row down is the newest, and the role is active exactly if there is one.
-use Prim.Native.Nat.{ℕ, zero, suc, ◌-◌, ◌≤◌, ◌<◌}
-use mathlib.Core.Path.{◌≡◌, refl, sym, ap, ◌∙◌, subst}
+use Prim.Native.Nat.{ℕ, zero, suc, ◌-◌, ◌≤◌}
+use mathlib.Core.Path.{◌≡◌, refl, ap, ◌∙◌, subst}
 use mathlib.Core.Bool.{Bool, true, false, ◌||◌, cond, or-true}
 use mathlib.Core.Logic.{◌≢◌}
 use mathlib.Core.List.{List, [], ◌∷◌}
 use native.Mathlib.Omega.{arith}
 use lib.Dec.{T}
+use Rattle.std.proofs.iter.runs.Sources.{nat_range_steps_back}
+use Rattle.std.proofs.lemmas.Iterator.{YieldsList}
+use Rattle.std.specs.Iterator.{AlwaysYields}
+use Rattle.std.specs.Iterator.Adapters.{rev_source, rev_steps}
+use Rattle.std.specs.List.{find}
+use Rattle.std.specs.Prelude.{Some}
+use Rattle.std.specs.declared.iter.Rev.{Rev}
+use Rattle.std.specs.declared.ops.Range.{Range}
 use Rattle.model.specs.Lists.{any}
 use Rattle.model.specs.Conditions.{is_row, active}
 use Rattle.model.proofs.Tests.{of_true, any_append}
 use Rattle.table.specs.Entries.{row_at, first_rows}
 use Rattle.table.proofs.Entries.{rows_more}
-use Rattle.rests.specs.Newest.{newest}
+use Rattle.rests.specs.Newest.{newest, before}
+
+-- the numbers below k, the last first
+abbrev pub down : ℕ → List ℕ
+down zero = []
+down (suc k) = k ∷ down k
+
+counts : (k : ℕ) (s : Rev (Range ℕ)) → (rev_source s).start ≡ 0 → (rev_source s).end ≡ k → AlwaysYields (rev_steps nat_range_steps_back) (λ x. x) s (down k)
+counts zero s a e = λ x t h. omega arith
+counts (suc k) s a e = ((λ t h. omega arith), (λ x t h. (omega arith, counts k t (omega arith) (omega arith))))
+
+pub counted-down : (k : ℕ) {s : Rev (Range ℕ)} → rev_source s ≡ record { start = 0; end = k } → YieldsList (rev_steps nat_range_steps_back) (λ x. x) s (down k)
+counted-down k {s} e = record { runs = counts k s (ap (λ (r : Range ℕ). r.start) e) (ap (λ (r : Range ℕ). r.end) e) }
 
 module _ (s : List ℕ) (u q : ℕ) where
-  -- row i - 1 is the newest of the first i, or the newest stands before it
-  pub newest-here : (i : ℕ) → 0 < i → is_row u q (row_at s (i - 1)) ≡ true → newest s u q i ≡ i
+  -- what is found from the last row down is the newest
+  pub found-newest : (k : ℕ) → find (λ (i : ℕ). is_row u q (row_at s i)) (down k) ≡ before (newest s u q k)
   unfolding newest
-  newest-here zero h e = absurd (omega arith)
-  newest-here (suc i) h e = let k : i ≡ suc i - 1 = omega arith in ap (λ (b : Bool). cond b (suc i) (newest s u q i)) (ap (λ (n : ℕ). is_row u q (row_at s n)) k ∙ e)
-
-  pub newest-before : (i : ℕ) → 0 < i → is_row u q (row_at s (i - 1)) ≡ false → newest s u q (i - 1) ≡ newest s u q i
-  unfolding newest
-  newest-before zero h e = absurd (omega arith)
-  newest-before (suc i) h e = let k : i ≡ suc i - 1 = omega arith in ap (newest s u q) (sym k) ∙ sym (ap (λ (b : Bool). cond b (suc i) (newest s u q i)) (ap (λ (n : ℕ). is_row u q (row_at s n)) k ∙ e))
-
-  pub newest-none : (i k : ℕ) → i ≤ 0 → newest s u q i ≡ newest s u q k → 0 ≡ newest s u q k
-  unfolding newest
-  newest-none zero k h e = e
-  newest-none (suc i) k h e = absurd (omega arith)
+  found-newest zero = refl
+  found-newest (suc k) = go (is_row u q (row_at s k)) (found-newest k)
+    where
+      go : (b : Bool) → find (λ (i : ℕ). is_row u q (row_at s i)) (down k) ≡ before (newest s u q k) → cond b (Some k) (find (λ (i : ℕ). is_row u q (row_at s i)) (down k)) ≡ before (cond b (suc k) (newest s u q k))
+      go true e = refl
+      go false e = e
 
   pub newest-within : (k : ℕ) → newest s u q k ≤ k
   unfolding newest

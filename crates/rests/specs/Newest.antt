@@ -1,5 +1,5 @@
 -- Where a role of a user stands in the rows.
-use Rattle.std.specs.Prelude.{ℕ, zero, suc, cond, List}
+use Rattle.std.specs.Prelude.{ℕ, zero, suc, cond, List, Option, Some, None}
 use Rattle.model.specs.Conditions.{is_row}
 use Rattle.table.specs.Entries.{row_at}
 
@@ -7,3 +7,8 @@ use Rattle.table.specs.Entries.{row_at}
 unfoldable pub newest : List ℕ → ℕ → ℕ → ℕ → ℕ
 newest s u q zero = 0
 newest s u q (suc k) = cond (is_row u q (row_at s k)) (suc k) (newest s u q k)
+
+-- the place itself
+abbrev pub before : ℕ → Option ℕ
+before zero = None
+before (suc i) = Some i

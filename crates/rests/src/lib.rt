@@ -3,141 +3,99 @@
 
 #![tactic(auto)]
 
-ghost use Rattle.std.specs.Prelude.{◌≡◌, [], ◌≤◌, ◌<◌, length, get_or, take};
-ghost use Rattle.model.specs.Limits.{roles, state_size, most_rows};
+ghost use Rattle.std.specs.Prelude.{◌≡◌, [], ◌≤◌, ◌<◌, ◌+◌, length};
+ghost use Rattle.std.specs.List.{slice_get};
+ghost use Rattle.model.specs.Limits.{roles, most_kinds, state_size, most_rows};
 ghost use Rattle.model.specs.Layout.{policy_of};
 ghost use Rattle.model.specs.Conditions.{meant, membership, rule_numbered, roles_asked, rests_on};
 ghost use Rattle.table.specs.Entries.{without_rights};
-ghost use Rattle.rests.specs.Newest.{newest};
+ghost use Rattle.rests.specs.Newest.{newest, before};
 ghost use Rattle.rests.specs.Asked.{asked_marks, AskedThrough, Known, ConditionAsked, RowAsked};
 
-use model::{FIRST_FACT, FIRST_KIND, MOST_CONDITIONS, MOST_PREREQUISITES, ROLES, Row};
+use model::{Condition, FIRST_KIND, Lent, ROLES, Row, Rule};
 
-// The roles that a condition asks for: the first `count` of four.
-#[derive(Clone, Copy)]
-pub struct RolesAsked {
-    pub count: usize,
-    pub roles: [u16; 4],
+// The rule under which the row was granted. What the row rests on are its membership conditions.
+pub fn own_rule(rules: &[u16], row: Row) -> Rule
+    ensures { result ≡ rule_numbered (policy_of (without_rights rules.now [])) row.rule }
+{
+    table::rule_numbered(rules, usize::from(row.rule))
 }
 
-// A role asks for itself, a kind for its prerequisite roles, a fact for none.
-pub fn roles_asked(kinds: &[u16], condition: u16) -> RolesAsked
-    ensures few { result.count ≤ 4 }
-    ensures asked { take result.count result.roles ≡ roles_asked (policy_of (without_rights [] kinds.now)) (meant condition) }
+// The first role that a condition asks for: a role asks for itself, a kind for its prerequisite roles, a fact for none.
+fn first_role(kinds: &[u16], number: u16) -> Option<u16>
+    ensures { result ≡ slice_get (roles_asked (policy_of (without_rights [] kinds.now)) (meant number)) 0 }
 {
-    if condition < FIRST_KIND {
-        return RolesAsked {
-            count: 1,
-            roles: [condition, 0, 0, 0],
-        };
-    }
-    if condition < FIRST_FACT {
-        let row = table::kind_numbered(kinds, table::wide(condition - FIRST_KIND));
-        let roles = row.prerequisites;
-        let count = table::least(table::wide(row.s), MOST_PREREQUISITES);
-        return RolesAsked { count, roles };
-    }
-    RolesAsked {
-        count: 0,
-        roles: [0, 0, 0, 0],
+    match Condition::from(number) {
+        Condition::Role(role) => Some(role),
+        Condition::Kind(kind) => table::kind_numbered(kinds, usize::from(kind))
+            .prerequisite_roles()
+            .first()
+            .copied(),
+        Condition::Fact(_) | Condition::Malformed => None,
     }
 }
 
-// The membership conditions of the row's own rule: the first `count` of eight.
-#[derive(Clone, Copy)]
-pub struct Membership {
-    pub count: usize,
-    pub conditions: [u16; 8],
-}
-
-pub fn membership_of(rules: &[u16], row: Row) -> Membership
-    ensures few { result.count ≤ 8 }
-    ensures own { take result.count result.conditions ≡ membership (rule_numbered (policy_of (without_rights rules.now [])) row.rule) }
+// The first role that the row rests on.
+pub fn next_role(policy: Lent, row: Row) -> Option<u16>
+    ensures { result ≡ slice_get (rests_on (policy_of (without_rights policy.entry.rules.now policy.entry.kinds.now)) row) 0 }
 {
-    let rule = table::rule_numbered(rules, table::wide(row.rule));
-    let conditions = rule.conditions;
-    let count = table::least(table::wide(rule.m), MOST_CONDITIONS);
-    Membership { count, conditions }
-}
-
-// The first role that the row rests on, or `ROLES` where it rests on none.
-pub fn next_role(rules: &[u16], kinds: &[u16], row: Row) -> u16
-    ensures { result ≡ get_or (rests_on (policy_of (without_rights rules.now kinds.now)) row) 0 roles }
-{
-    let own = membership_of(rules, row);
-    let conditions = own.conditions;
-    let m = own.count;
-    let mut i: usize = 0;
-    while i < m {
-        let named = roles_asked(kinds, conditions[i]);
-        let roles = named.roles;
-        if 0 < named.count {
-            return roles[0];
+    let rule = own_rule(policy.rules, row);
+    for number in rule.membership() {
+        if let Some(role) = first_role(policy.kinds, *number) {
+            return Some(role);
         }
-        i += 1;
     }
-    ROLES
+    None
 }
 
-// The newest of the first k rows in which the user is active in the role: one more than its place, or 0 where there is none.
-pub fn newest_row(state: &[u16], k: usize, user: u16, role: u16) -> usize
+// The place of the newest of the first k rows in which the user is active in the role.
+pub fn newest_row(state: &[u16], k: usize, user: u16, role: u16) -> Option<usize>
     requires { (length state.now ≡ state_size) × (k ≤ most_rows) }
-    ensures { result ≡ newest state.now user role k }
+    ensures { result ≡ before (newest state.now user role k) }
 {
-    let mut i = k;
-    while 0 < i {
-        if table::row_is(table::row_at(state, i - 1), user, role) {
-            return i;
-        }
-        i -= 1;
-    }
-    0
+    (0..k)
+        .rev()
+        .find(|i| table::row_is(table::row_at(state, *i), user, role))
 }
 
 // The condition is asked, if that takes no more than its own mark: a role is marked, a kind that is marked has asked already, a fact asks
 // for nothing. Says whether it is.
-fn ask_known(c: u16, asked: &mut [bool]) -> bool
+fn ask_known(number: u16, asked: &mut [bool]) -> bool
     requires { length asked.old ≡ asked_marks }
-    ensures { Known asked.old asked.new c result }
+    ensures { Known asked.old asked.new number result }
 {
-    if c < FIRST_KIND {
-        asked[table::wide(c)] = true;
-        return true;
+    match Condition::from(number) {
+        Condition::Role(role) => {
+            asked[usize::from(role)] = true;
+            true
+        }
+        Condition::Kind(_) => asked[usize::from(number)],
+        Condition::Fact(_) | Condition::Malformed => true,
     }
-    if c < FIRST_FACT {
-        return asked[table::wide(c)];
-    }
-    true
 }
 
 // A kind asks for its prerequisite roles, and is marked. A role out of range never stands.
-fn ask_kind(kinds: &[u16], c: u16, asked: &mut [bool])
-    requires { (length asked.old ≡ asked_marks) × (roles ≤ c) × (c < asked_marks) × AskedThrough kinds.now asked.old }
-    ensures { ConditionAsked kinds.now asked.old asked.new c }
+fn ask_kind(kinds: &[u16], kind: u16, asked: &mut [bool])
+    requires { (length asked.old ≡ asked_marks) × (kind < most_kinds) × AskedThrough kinds.now asked.old }
+    ensures { ConditionAsked kinds.now asked.old asked.new (roles + kind) }
 {
-    let named = roles_asked(kinds, c);
-    let roles = named.roles;
-    let n = named.count;
-    let mut j: usize = 0;
-    while j < n {
-        let role = roles[j];
-        j += 1;
-        if role < ROLES {
-            asked[table::wide(role)] = true;
+    let row = table::kind_numbered(kinds, usize::from(kind));
+    for role in row.prerequisite_roles() {
+        if *role < ROLES {
+            asked[usize::from(*role)] = true;
         }
     }
-    asked[table::wide(c)] = true;
+    asked[usize::from(FIRST_KIND + kind)] = true;
 }
 
 // What the condition asks for is marked.
-pub fn ask_condition(kinds: &[u16], c: u16, asked: &mut [bool])
+pub fn ask_condition(kinds: &[u16], number: u16, asked: &mut [bool])
     requires { (length asked.old ≡ asked_marks) × AskedThrough kinds.now asked.old }
-    ensures { ConditionAsked kinds.now asked.old asked.new c }
+    ensures { ConditionAsked kinds.now asked.old asked.new number }
 {
-    if ask_known(c, asked) {
-        return;
+    if !ask_known(number, asked) {
+        ask_kind(kinds, number - FIRST_KIND, asked);
     }
-    ask_kind(kinds, c, asked);
 }
 
 // What the row rests on is asked, up to the first kind that has not asked yet. Says whether there is none.
@@ -145,15 +103,11 @@ pub fn ask_row(rules: &[u16], row: Row, asked: &mut [bool]) -> bool
     requires { length asked.old ≡ asked_marks }
     ensures { RowAsked (membership (rule_numbered (policy_of (without_rights rules.now [])) row.rule)) asked.old asked.new result }
 {
-    let own = membership_of(rules, row);
-    let conditions = own.conditions;
-    let m = own.count;
-    let mut i: usize = 0;
-    while i < m {
-        if !ask_known(conditions[i], asked) {
+    let rule = own_rule(rules, row);
+    for number in rule.membership() {
+        if !ask_known(*number, asked) {
             return false;
         }
-        i += 1;
     }
     true
 }

@@ -9,14 +9,15 @@ use native.Mathlib.Omega.{arith}
 use native.Mathlib.Nat.{suc-mul, zero-mul, add_comm}
 use native.Mathlib.Numerals.{add-one}
 use lib.Dec.{T}
-use lib.ListN.{length, get_or, take, drop, length-drop, get_or-eq_default, length-map}
-use lib.Seq.{get_or-take, get_or-drop, drop-drop, drop_at, take-suc, take-add, length-take-le, take_all}
+use lib.ListN.{length, get_or, take, drop, replicate, length-replicate, get_or-eq_default, length-map}
+use lib.Seq.{get_or-take, get_or-drop, drop-drop, take-suc, take_all, ext_get_or}
+use Rattle.std.specs.Array.{AllOfLen}
 use Rattle.model.specs.Lists.{any, all, rows_of}
 use Rattle.model.specs.Layout.{row_from, row_numbers}
 use Rattle.model.specs.Sound.{well_formed}
-use Rattle.model.proofs.Tests.{lt_or_ge, all_append, at_place, is_true, of_true, any_append, of_any, all_of, among_first}
-use Rattle.model.proofs.Numbers.{cells, part_cells, length-rows, formed_size, formed_rows, formed_certificates}
-use Rattle.table.specs.Entries.{entry, entries, rule_at, kind_at, right_at, row_at, first_rows, certificate_at, Sized}
+use Rattle.model.proofs.Tests.{lt_or_ge, all_append, at_place, is_true, of_true, any_append, of_any, all_of, among_first, repeated}
+use Rattle.model.proofs.Numbers.{length-rows, formed_size, formed_rows, formed_certificates}
+use Rattle.table.specs.Entries.{entry, entries, right_at, row_at, first_rows, certificate_at, Sized}
 
 -- ── one entry more ──
 
@@ -43,6 +44,14 @@ module _ {A : Type 0} (from : List ℕ → A) (width : ℕ) where
   pub entry-out : (table : List ℕ) (n i : ℕ) (d : A) → n ≤ i → get_or (entries from width table n) i d ≡ d
   entry-out table n i d h = get_or-eq_default (entries from width table n) d {n = i} (omega (arith, length-entries table n))
 
+  -- what is read of a table at any number, with d where it has no row
+  pub numbered : (table : List ℕ) (i : ℕ) (d r : A) → (i < length table / width → r ≡ entry from width table i) → (length table / width ≤ i → r ≡ d) → r ≡ get_or (entries from width table (length table / width)) i d
+  numbered table i d r there beyond = go (lt_or_ge i (length table / width))
+    where
+      go : (i < length table / width) ⊎ (length table / width ≤ i) → r ≡ get_or (entries from width table (length table / width)) i d
+      go (inl h) = there h ∙ sym (entry_in table (length table / width) i d h)
+      go (inr h) = beyond h ∙ sym (entry-out table (length table / width) i d h)
+
   pub entry-member : (table : List ℕ) (n i : ℕ) → i < n → Memᴰ (entry from width table i) (entries from width table n)
   entry-member table n i h =
       subst (λ (x : A). Memᴰ x (entries from width table n)) (entry_in table n i (entry from width table i) h) (at_place (entries from width table n) i (entry from width table i) (omega (arith, length-entries table n)))
@@ -59,6 +68,10 @@ module _ {A : Type 0} (from : List ℕ → A) (width : ℕ) where
 pub rows_more : (s : List ℕ) (k : ℕ) → first_rows s (suc k) ≡ first_rows s k ++ (row_at s k ∷ [])
 unfolding first_rows row_at
 rows_more s k = entries_next row_from 3 (row_numbers s) k
+
+-- so many numbers by default
+pub zeros : (xs : List ℕ) (n : ℕ) → AllOfLen (λ (x : ℕ). x ≡ 0) xs n → xs ≡ replicate n 0
+zeros xs n z = ext_get_or 0 xs (replicate n 0) (z.long ∙ sym (length-replicate n 0)) (λ i h. z.at i 0 (omega (arith, z.long)) ∙ sym (repeated 0 n i))
 
 -- ── a loop that looks for an element that fails, over a list by its places ──
 
@@ -97,14 +110,6 @@ take-least m n l e = go (lt_or_ge m n)
     go (inl h) = let q : min m n ≡ m = omega arith in ap (λ (k : ℕ). take k l) q
     go (inr h) = take_all (min m n) l (omega arith) ∙ sym (take_all m l (omega arith))
 
--- a whole row, without its first k numbers
-row_cells : (l : List ℕ) (b k n : ℕ) → b + k + n ≤ length l → drop k (take (k + n) (drop b l)) ≡ cells l b k n
-row_cells l b k n h =
-    ap (drop k) (take-add k n (drop b l))
-    ∙ drop_at (take k (drop b l)) (take n (drop k (drop b l))) k (length-take-le k (drop b l) (simp length-drop (omega arith)))
-    ∙ ap (take n) (drop-drop k b l)
-    ∙ part_cells l b k n h
-
 -- number k of a row
 row_number : (l : List ℕ) (b w k : ℕ) → k < w → get_or (take w (drop b l)) k 0 ≡ get_or l (b + k) 0
 row_number l b w k h = get_or-take w (drop b l) k 0 h ∙ get_or-drop b l k 0
@@ -113,28 +118,6 @@ first-number : (l : List ℕ) (b w : ℕ) → 0 < w → get_or (take w (drop b l
 first-number l b w h = let e : b + 0 ≡ b = omega arith in row_number l b w 0 h ∙ ap (λ (p : ℕ). get_or l p 0) e
 
 module _ (l : List ℕ) (i : ℕ) where
-  pub rule_places : i < length l / 11 → rule_at l i ≡ record { target = get_or l (i * 11) 0; n = get_or l (i * 11 + 1) 0; m = get_or l (i * 11 + 2) 0; conditions = cells l (i * 11) 3 8 }
-  unfolding rule_at
-  rule_places h =
-      λ j.
-      record {
-        target = first-number l (i * 11) 11 (omega arith) j;
-        n = row_number l (i * 11) 11 1 (omega arith) j;
-        m = row_number l (i * 11) 11 2 (omega arith) j;
-        conditions = row_cells l (i * 11) 3 8 (omega arith) j;
-      }
-
-  pub kind_places : i < length l / 7 → kind_at l i ≡ record { appointer = get_or l (i * 7) 0; mode = get_or l (i * 7 + 1) 0; s = get_or l (i * 7 + 2) 0; prerequisites = cells l (i * 7) 3 4 }
-  unfolding kind_at
-  kind_places h =
-      λ j.
-      record {
-        appointer = first-number l (i * 7) 7 (omega arith) j;
-        mode = row_number l (i * 7) 7 1 (omega arith) j;
-        s = row_number l (i * 7) 7 2 (omega arith) j;
-        prerequisites = row_cells l (i * 7) 3 4 (omega arith) j;
-      }
-
   pub right_places : right_at l i ≡ record { role = get_or l (i * 2) 0; privilege = get_or l (i * 2 + 1) 0 }
   unfolding right_at
   right_places = λ j. record { role = first-number l (i * 2) 2 (omega arith) j; privilege = row_number l (i * 2) 2 1 (omega arith) j }

@@ -1,6 +1,5 @@
 pub mod Entries
 pub mod Worlds
-pub mod Writes
 pub mod Zeros
 pub mod Form
 pub mod Clauses

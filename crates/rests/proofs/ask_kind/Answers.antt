@@ -1,9 +1,15 @@
-use mathlib.Core.Path.{◌≡◌}
-use native.Mathlib.Omega.{arith}
-use lib.ListN.{length}
+use Rattle.std.proofs.Common.{ℕ, ◌+◌, [], ap, ◌∙◌, arith}
+use Rattle.model.specs.Layout.{policy_of}
+use Rattle.model.specs.Conditions.{prerequisite_roles, kind_numbered}
+use Rattle.table.specs.Entries.{without_rights}
+use Rattle.rests.proofs.Asking.{asked-kind, kind-meant}
 use Rattle.rests.proofs.Marking.{kind_marked}
-use borrow.Author.Rules.{rules}
 use Rattle.rests.proofs.ask_kind.Goals as goal
 
 pub returns : goal.returns
-returns c = kind_marked c.args.kinds.now c.args.asked.now c.loop-j.asked c.roles_asked-named.result.roles c.roles_asked-named.result.count c.loop-j.j c.args.c c.wide-2.result c.requires.0 (let z : length c.roles_asked-named.result.roles ≡ 4 = search rules in z) c.roles_asked-named.ensures.few c.roles_asked-named.ensures.asked (omega (arith, c.loop-j.invariant.0)) c.wide-2.ensures c.requires.1 c.requires.2 c.requires.3 c.loop-j.invariant.1
+returns c =
+    kind_marked c.args.kinds.now c.args.asked.now c.loop-role.asked c.prerequisite_roles-role-items.result.now c.loop-role.role-index (256 + c.args.kind) c.from-2.result c.requires.0
+    (c.prerequisite_roles-role-items.ensures
+    ∙ ap prerequisite_roles (c.kind_numbered-row.ensures ∙ ap (λ (n : ℕ). kind_numbered (policy_of (without_rights [] c.args.kinds.now)) n) c.from.ensures)
+    ∙ asked-kind c.args.kinds.now (256 + c.args.kind) c.args.kind (kind-meant c.args.kind c.requires.1))
+    (omega arith) c.from-2.ensures (omega arith) (omega (arith, c.requires.1)) c.requires.2 c.loop-role.invariant

@@ -1,12 +1,19 @@
-use mathlib.Core.Path.{◌≡◌}
-use native.Mathlib.Omega.{arith}
-use lib.ListN.{length}
+use Rattle.std.proofs.Common.{ℕ, ◌≡◌, true, false, List, [], subst, arith}
+use Rattle.model.specs.Layout.{policy_of}
+use Rattle.model.specs.Conditions.{membership, rule_numbered}
+use Rattle.table.specs.Entries.{without_rights}
+use Rattle.rests.specs.Asked.{RowAsked}
 use Rattle.rests.proofs.Marking.{row-asked, row-left}
-use borrow.Author.Rules.{rules}
 use Rattle.rests.proofs.ask_row.Goals as goal
 
 pub returns-then-not-ask_known : goal.returns-then-not-ask_known
-returns-then-not-ask_known c = let z : length c.membership_of-own.result.conditions ≡ 8 = search rules in row-left c.args.asked.now c.loop-i.asked c.membership_of-own.result.conditions _ c.loop-i.i c.membership_of-own.result.count c.membership_of-own.ensures.own (omega (arith, z, c.membership_of-own.ensures.few)) _ (c.ask_known.ensures.unknown (c.if-not-ask_known.true)).0 c.loop-i.invariant.0 c.loop-i.invariant.2
+returns-then-not-ask_known c =
+    let own : c.membership-number-items.result.now ≡ membership (rule_numbered (policy_of (without_rights c.args.rules.now [])) c.args.row.rule) = cc in
+    subst (λ (l : List ℕ). RowAsked l c.args.asked.now c.ask_known.new.asked false) own
+    (row-left c.args.asked.now c.loop-number.asked c.membership-number-items.result.now c.loop-number.number-index c.loop-number.invariant c.ask_known.new.asked (c.ask_known.ensures.unknown c.if-not-ask_known.true).0 (omega arith))
 
 pub returns : goal.returns
-returns c = let z : length c.membership_of-own.result.conditions ≡ 8 = search rules in row-asked _ c.loop-i.asked c.membership_of-own.result.conditions _ c.loop-i.i c.membership_of-own.result.count c.membership_of-own.ensures.own (omega (arith, z, c.membership_of-own.ensures.few)) (omega (arith, c.loop-i.invariant.0)) c.loop-i.invariant.2
+returns c =
+    let own : c.membership-number-items.result.now ≡ membership (rule_numbered (policy_of (without_rights c.args.rules.now [])) c.args.row.rule) = cc in
+    subst (λ (l : List ℕ). RowAsked l c.args.asked.now c.loop-number.asked true) own
+    (row-asked c.args.asked.now c.loop-number.asked c.membership-number-items.result.now c.loop-number.number-index c.loop-number.invariant (omega arith))

@@ -1,14 +1,14 @@
-use mathlib.Core.Path.{sym, ap, ◌∙◌}
-use native.Mathlib.Omega.{arith}
+use Rattle.std.proofs.Common.{ℕ, rules, sym, ◌∙◌}
+use borrow.Author.Tests.{tests}
+use Rattle.std.proofs.lemmas.Iterator.Adapters.{option_map_id}
+use Rattle.std.proofs.lemmas.Iterator.Search.{find_from_yields_List}
 use Rattle.model.specs.Conditions.{is_row}
-use Rattle.rests.proofs.Newest.{newest-here, newest-before, newest-none}
+use Rattle.table.specs.Entries.{row_at}
+use Rattle.rests.proofs.Newest.{counted-down, found-newest}
 use Rattle.rests.proofs.newest_row.Goals as goal
 
-pub returns-then-row_is : goal.returns-then-row_is
-returns-then-row_is c = sym (newest-here c.args.state.now c.args.user c.args.role c.loop-i.i c.loop-i-test.true (ap (is_row c.args.user c.args.role) (sym c.row_at.ensures) ∙ sym c.row_is.ensures ∙ c.if-row_is.true)) ∙ c.loop-i.invariant.1
-
-pub loop-i-preserved : goal.loop-i-preserved
-loop-i-preserved c = (omega arith, newest-before c.args.state.now c.args.user c.args.role c.loop-i.i c.loop-i-test.true (ap (is_row c.args.user c.args.role) (sym c.row_at.ensures) ∙ sym c.row_is.ensures ∙ c.if-row_is.false) ∙ c.loop-i.invariant.1)
-
 pub returns : goal.returns
-returns c = newest-none c.args.state.now c.args.user c.args.role c.loop-i.i c.args.k (omega arith) c.loop-i.invariant.1
+returns c =
+    sym (option_map_id c.find.result)
+    ∙ find_from_yields_List (λ (i : ℕ). is_row c.args.user c.args.role (row_at c.args.state.now i)) _ _ c.find.result c.find.ensures.ran (counted-down c.args.k c.rev.ensures.source) (λ x b q k. search (rules, tests))
+    ∙ found-newest c.args.state.now c.args.user c.args.role c.args.k

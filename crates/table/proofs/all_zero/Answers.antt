@@ -1,7 +1,11 @@
-use native.Mathlib.Omega.{arith}
-use Rattle.table.proofs.Zeros.{zero_more}
-use borrow.Author.Rules.{rules}
+use Rattle.std.proofs.Common.{ℕ, ◌+◌, ◌-◌, ◌≡◌, rules, take, drop, bit_or, ap, ◌∙◌, arith}
+use Rattle.std.proofs.lemmas.Iterator.{YieldsList-from_slice}
+use Rattle.std.proofs.lemmas.Iterator.Consumers.{fold_from_yields_List}
+use Rattle.table.proofs.Zeros.{joined_zero}
 use Rattle.table.proofs.all_zero.Goals as goal
 
-pub loop-j-preserved : goal.loop-j-preserved
-loop-j-preserved c = (search rules, zero_more c.args.numbers.now c.args.from c.loop-j.j c.loop-j.joined (omega arith) c.loop-j.invariant.1)
+pub returns : goal.returns
+returns c =
+    let asked = drop c.args.from c.args.numbers.now in
+    let count : c.args.from + c.args.count - c.args.from ≡ c.args.count = omega arith in
+    joined_zero c.fold.result 0 (take c.args.count asked) (fold_from_yields_List _ bit_or 0 c.fold.result c.fold.ensures.ran (YieldsList-from_slice (take c.args.count asked) (c.iter.ensures.rest ∙ ap (λ (n : ℕ). take n asked) count)) (λ a x b q k. search rules))

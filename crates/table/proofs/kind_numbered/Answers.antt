@@ -1,15 +1,12 @@
-use mathlib.Core.Path.{sym, ◌∙◌}
-use Prim.Native.Nat.{◌/◌}
-use lib.ListN.{length}
 use Rattle.model.specs.Layout.{kind_from, policy_of}
-use Rattle.table.specs.Entries.{kind_at}
-use Rattle.table.proofs.Entries.{entry_in, entry-out}
+use Rattle.model.specs.Conditions.{no_kind}
+use Rattle.table.proofs.Entries.{numbered, zeros}
 use Rattle.table.proofs.kind_numbered.Goals as goal
 
-pub returns-then-k-kinds : goal.returns-then-k-kinds
-unfolding policy_of kind_at
-returns-then-k-kinds c = c.kind_at.ensures ∙ sym (entry_in kind_from 7 c.args.kinds.now _ c.args.k _ c.if-k-kinds.true)
-
-pub returns-else-k-kinds : goal.returns-else-k-kinds
+pub returns : goal.returns
 unfolding policy_of
-returns-else-k-kinds c = sym (entry-out kind_from 7 c.args.kinds.now (length c.args.kinds.now / 7) c.args.k _ c.if-k-kinds.false)
+returns c =
+    numbered kind_from 7 c.args.kinds.now c.args.k no_kind c.entry_numbered.result c.entry_numbered.ensures.there
+    (λ h.
+    let z = c.entry_numbered.ensures.beyond h in
+    λ j. record { appointer = z.0 j; mode = z.1.0 j; s = z.1.1.0 j; prerequisites = zeros c.entry_numbered.result.prerequisites 4 z.1.1.1 j })
