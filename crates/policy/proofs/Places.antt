@@ -1,26 +1,28 @@
 -- Numbers of which the first n count: each is judged beside a mark that says whether it counts.
-use Prim.Native.Nat.{ℕ, zero, suc, ◌-◌, ◌≤◌}
+use Prim.Native.Nat.{ℕ, zero, suc, ◌+◌, ◌-◌, ◌≤◌, ◌<◌}
 use mathlib.Core.Path.{◌≡◌, refl, sym, ap, ◌∙◌}
-use mathlib.Core.Bool.{Bool, true, false, not, ◌&&◌, ◌||◌, cond, and_assoc}
-use mathlib.Core.Logic.{◌⊎◌, inl, inr}
+use mathlib.Core.Bool.{Bool, true, false, ◌&&◌, cond, and_assoc}
 use mathlib.Core.List.{List, [], ◌∷◌, ◌++◌}
 use native.Mathlib.Omega.{arith}
-use lib.ListN.{length, take, drop, replicate, length-drop}
-use lib.Seq.{take_all}
-use Rattle.std.proofs.lemmas.List.{drop-replicate, drop-append-le}
+use native.Mathlib.Numerals.{add-one}
+use lib.Bits.{bit_or}
+use lib.Dec.{eqb}
+use lib.ListN.{length, take, drop, replicate, get_or}
+use lib.Seq.{drop-cons}
+use Rattle.std.proofs.lemmas.List.{drop-replicate, drop-append-le, drop_all}
 use Rattle.model.specs.Lists.{all, is_zero}
+use Rattle.table.proofs.Zeros.{join_zero}
 
 -- ── the marks ──
 
 abbrev pub marks : List Bool
 marks = true ∷ true ∷ true ∷ true ∷ true ∷ true ∷ true ∷ true ∷ false ∷ false ∷ false ∷ false ∷ false ∷ false ∷ false ∷ false ∷ []
 
-marks-from : (n : ℕ) → n ≤ 8 → take (16 - (8 - n)) (drop (8 - n) marks) ≡ replicate n true ++ replicate 8 false
+marks-from : (n : ℕ) → n ≤ 8 → drop (8 - n) marks ≡ replicate n true ++ replicate 8 false
 marks-from n h =
     let few : 8 - n ≤ length (replicate 8 true) = omega arith in
     let left : 8 - (8 - n) ≡ n = omega arith in
-    take_all (16 - (8 - n)) (drop (8 - n) marks) (simp length-drop (omega arith))
-    ∙ drop-append-le (8 - n) (replicate 8 true) (replicate 8 false) few
+    drop-append-le (8 - n) (replicate 8 true) (replicate 8 false) few
     ∙ ap (λ (l : List Bool). l ++ replicate 8 false) (drop-replicate (8 - n) 8 true ∙ ap (λ (k : ℕ). replicate k true) left)
 
 -- ── numbers beside marks ──
@@ -44,25 +46,21 @@ module _ (test : ℕ → Bool) where
   first_count (suc n) m (x ∷ xs) h = ap (λ (b : Bool). test x && b) (first_count n m xs (omega arith)) ∙ sym (and_assoc (test x) (all test (take n xs)) (all is_zero (drop n xs)))
 
   -- the marks from 8 - n on say that the first n count
-  pub first-counted : (n : ℕ) (xs : List ℕ) → n ≤ 8 → length xs ≤ 8 → fit xs (take (16 - (8 - n)) (drop (8 - n) marks)) ≡ (all test (take n xs) && all is_zero (drop n xs))
-  first-counted n xs h few = ap (fit xs) (marks-from n h) ∙ first_count n 8 xs few
+  pub first-counted : (n : ℕ) (xs : List ℕ) → n ≤ 8 → length xs ≤ 8 → fit xs (drop (8 - n + 0) marks) ≡ (all test (take n xs) && all is_zero (drop n xs))
+  first-counted n xs h few = let e : 8 - n + 0 ≡ 8 - n = omega arith in ap (λ (k : ℕ). fit xs (drop k marks)) e ∙ ap (fit xs) (marks-from n h) ∙ first_count n 8 xs few
 
-  -- one number is judged
-  pub fit_more : (wrong this fits b : Bool) (x : ℕ) (xs ys : List ℕ) (bs cs : List Bool) → xs ≡ x ∷ ys → bs ≡ b ∷ cs → fits ≡ test x → this ≡ not (cond b fits (is_zero x)) → (not (wrong || this) && fit ys cs) ≡ (not wrong && fit xs bs)
-  fit_more true this fits b x xs ys bs cs e d f w = refl
-  fit_more false this fits b x xs ys bs cs e d f w =
-      ap (λ (v : Bool). not v && fit ys cs) (w ∙ ap (λ (v : Bool). not (cond b v (is_zero x))) f)
-      ∙ ap (λ (v : Bool). v && fit ys cs) (twice (cond b (test x) (is_zero x)))
-      ∙ sym (λ i. fit (e i) (d i))
-    where
-      twice : (v : Bool) → not (not v) ≡ v
-      twice true = refl
-      twice false = refl
+  -- what is wrong with the number at place j is joined
+  pub fit_more : (wrong this j m : ℕ) (fits : Bool) (xs : List ℕ) → j < length xs → m + j < 16 → fits ≡ test (get_or xs j 0) → eqb this 0 ≡ cond (get_or marks (m + j) false) fits (is_zero (get_or xs j 0))
+      → (eqb (bit_or wrong this) 0 && fit (drop (j + 1) xs) (drop (m + (j + 1)) marks)) ≡ (eqb wrong 0 && fit (drop j xs) (drop (m + j) marks))
+  fit_more wrong this j m fits xs h k f w =
+      let next : m + (j + 1) ≡ suc (m + j) = omega arith in
+      let ahead : Bool = fit (drop (j + 1) xs) (drop (m + (j + 1)) marks) in
+      ap (λ (b : Bool). b && ahead) (join_zero wrong this)
+      ∙ and_assoc (eqb wrong 0) (eqb this 0) ahead
+      ∙ ap (λ (b : Bool). eqb wrong 0 && (b && ahead)) (w ∙ ap (λ (b : Bool). cond (get_or marks (m + j) false) b (is_zero (get_or xs j 0))) f)
+      ∙ ap (λ (l : List ℕ). eqb wrong 0 && (cond (get_or marks (m + j) false) (test (get_or xs j 0)) (is_zero (get_or xs j 0)) && fit l (drop (m + (j + 1)) marks))) (ap (λ (i : ℕ). drop i xs) (add-one j))
+      ∙ ap (λ (i : ℕ). eqb wrong 0 && (cond (get_or marks (m + j) false) (test (get_or xs j 0)) (is_zero (get_or xs j 0)) && fit (drop (suc j) xs) (drop i marks))) next
+      ∙ sym (λ i. eqb wrong 0 && fit (drop-cons xs j 0 h i) (drop-cons marks (m + j) false k i))
 
-  pub all-judged : (xs : List ℕ) (bs : List Bool) → (xs ≡ []) ⊎ (bs ≡ []) → fit xs bs ≡ true
-  all-judged xs bs (inl e) = ap (λ (l : List ℕ). fit l bs) e
-  all-judged xs bs (inr e) = ap (fit xs) e ∙ unmarked xs
-    where
-      unmarked : (l : List ℕ) → fit l [] ≡ true
-      unmarked [] = refl
-      unmarked (x ∷ l) = refl
+  pub all-judged : (xs : List ℕ) (j : ℕ) (bs : List Bool) → length xs ≤ j → fit (drop j xs) bs ≡ true
+  all-judged xs j bs h = ap (λ (l : List ℕ). fit l bs) (drop_all j xs h)

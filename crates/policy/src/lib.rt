@@ -2,7 +2,7 @@
 
 #![tactic(auto)]
 
-ghost use Rattle.std.specs.Prelude.{◌≡◌, ℕ, Bool, ◌+◌, ◌/◌, ◌<◌, ◌≤◌, ◌&&◌, not, cond, length, take, drop};
+ghost use Rattle.std.specs.Prelude.{◌≡◌, ℕ, Bool, ◌+◌, ◌/◌, ◌<◌, ◌≤◌, ◌&&◌, cond, eqb, length, take, drop};
 ghost use Rattle.model.specs.Answered.{tables_of};
 ghost use Rattle.model.specs.Lists.{all, is_zero};
 ghost use Rattle.model.specs.Limits.{kind_width, most_kinds};
@@ -46,24 +46,26 @@ const COUNTING: [bool; 16] = [
     false, false,
 ];
 
-// What is wrong with a number: one that counts does not fit, or one past those is not 0.
-fn is_wrong(x: u16, fits: bool, counts: bool) -> bool
-    ensures { result ≡ not (cond counts fits (is_zero x)) }
+// 0 if nothing is wrong with the number: one that counts fits, and one past those is 0.
+fn wrong(x: u16, fits: bool, counts: bool) -> u16
+    ensures { eqb result 0 ≡ cond counts fits (is_zero x) }
 {
-    if counts { !fits } else { x != 0 }
+    if counts { u16::from(!fits) } else { x }
 }
 
-// The first n of the numbers fit, and those past n are 0. What is wrong is joined: all are looked at, in one way through the loop.
+// The first n of the numbers fit, and those past n are 0. What is wrong is joined: all are looked at, in one way through the loop. Places
+// are counted, as over a zip the machine would judge one at a time.
 fn first_fit<const N: usize, F: Fn(u16) -> bool>(numbers: [u16; N], n: usize, fits: F) -> bool
     requires callable { F.IsAlwaysCallable fits }
     requires few { (n ≤ N) × (N ≤ 8) }
     ensures { (test : ℕ → Bool) → ((x : ℕ) (b : Bool) → F.post fits x b → b ≡ test x) → result ≡ (all test (take n numbers.entry) && all is_zero (drop n numbers.entry)) }
 {
-    let mut wrong = false;
-    for (x, counts) in numbers.iter().zip(&COUNTING[MOST_CONDITIONS - n..]) {
-        wrong |= is_wrong(*x, fits(*x), *counts);
+    let mut joined = 0;
+    for j in 0..N {
+        let x = numbers[j];
+        joined |= wrong(x, fits(x), COUNTING[MOST_CONDITIONS - n + j]);
     }
-    !wrong
+    joined == 0
 }
 
 // "target role, n, m, then eight conditions, those past n being 0. m ≤ n ≤ 8."
