@@ -1,6 +1,6 @@
 -- A policy is sound if its tables have their form and their rows fit: the clauses, in the order in which they are judged.
 use Prim.Native.Nat.{◌/◌}
-use mathlib.Core.Path.{◌≡◌, refl, sym, ap, ◌∙◌}
+use mathlib.Core.Path.{◌≡◌, refl, sym, ◌∙◌}
 use mathlib.Core.Bool.{Bool, true, false, ◌&&◌, and-true}
 use lib.Dec.{leb}
 use lib.ListN.{length}
@@ -28,7 +28,7 @@ sorted true true true true true true false h i = refl
 sorted true true true true true true true false i = refl
 sorted true true true true true true true true i = and-true i
 
-policy_parts : (t : Tables) → (tables_formed t && rows_fit t) ≡ sound_policy t
+pub policy_parts : (t : Tables) → (tables_formed t && rows_fit t) ≡ sound_policy t
 unfolding policy_clauses policy_of
 policy_parts t =
     sym
@@ -41,11 +41,3 @@ policy_parts t =
     && (leb (sym (length-entries kind_from 7 t.kinds (length t.kinds / 7)) j) 128
     && (leb (sym (length-entries right_from 2 t.rights (length t.rights / 2)) j) 2048
     && (sym (rules_fit_same (policy_of t) (kinds_only t.kinds) refl (policy_of t).rules) j && (all kind_fits (policy_of t).kinds && (all right_fits (policy_of t).rights && true)))))))))
-
--- the rows are judged where the tables have their form
-module _ (t : Tables) (formed : Bool) (e : formed ≡ tables_formed t) where
-  pub formed_and_fit : (fit : Bool) → formed ≡ true → fit ≡ rows_fit t → fit ≡ sound_policy t
-  formed_and_fit fit h f = f ∙ ap (λ (b : Bool). b && rows_fit t) (sym h ∙ e) ∙ policy_parts t
-
-  pub not_formed : formed ≡ false → formed ≡ sound_policy t
-  not_formed h = h ∙ ap (λ (b : Bool). b && rows_fit t) (sym h ∙ e) ∙ policy_parts t

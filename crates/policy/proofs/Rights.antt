@@ -74,14 +74,18 @@ by_sixteens (suc k) l =
     let e : 16 + k * 16 ≡ suc k * 16 = omega arith in
     (λ i. fit_alone 16 l i && by_sixteens k (drop 32 l) i) ∙ sym (fit-parts 16 (k * 16) l) ∙ ap (λ (m : ℕ). first_rights_fit m l) e
 
-one_by_one : (k : ℕ) (l : List ℕ) → all (λ (numbers : List ℕ). right_fits (right_from numbers)) (first_chunks 2 k l) ≡ first_rights_fit k l
+-- the right that two numbers make fits
+abbrev pub alone_fits : List ℕ → Bool
+alone_fits numbers = right_fits (right_from numbers)
+
+one_by_one : (k : ℕ) (l : List ℕ) → all alone_fits (first_chunks 2 k l) ≡ first_rights_fit k l
 unfolding first_rights_fit
 one_by_one zero l = refl
 one_by_one (suc k) l = ap (λ (b : Bool). right_fits (right_from (take 2 l)) && b) (one_by_one k (drop 2 l))
 
 -- sixteen at a time, and then one by one what is left
 pub sixteens_and_rest : (l rest : List ℕ) → rest ≡ drop (length l / 32 * 32) l → length rest ≡ length l % 32
-    → (all (first_rights_fit 16) (first_chunks 32 (length l / 32) l) && all (λ (numbers : List ℕ). right_fits (right_from numbers)) (first_chunks 2 (length rest / 2) rest)) ≡ all right_fits (policy_of (lent [] [] l)).rights
+    → (all (first_rights_fit 16) (first_chunks 32 (length l / 32) l) && all alone_fits (first_chunks 2 (length rest / 2) rest)) ≡ all right_fits (policy_of (lent [] [] l)).rights
 unfolding policy_of first_rights_fit
 sixteens_and_rest l rest e size =
     let at : length l / 32 * 32 ≡ length l / 32 * 16 * 2 = omega arith in

@@ -141,8 +141,7 @@ fn rights_fit(rights: &[u16]) -> bool
 {
     let (sixteens, rest) = rights.as_chunks::<32>();
     let (rest, _) = rest.as_chunks::<RIGHT_WIDTH>();
-    sixteens.iter().all(|numbers| sixteen_fit(numbers))
-        && rest.iter().all(|right| right_fits(right))
+    sixteens.iter().all(sixteen_fit) && rest.iter().all(right_fits)
 }
 
 // The table has whole rows, and not too many.
