@@ -1,8 +1,8 @@
 -- Which numbers a condition may be.
 use Prim.Native.Nat.{ℕ, ◌+◌, ◌-◌, ◌/◌, ◌≤◌, ◌<◌}
 use mathlib.Core.Path.{◌≡◌, sym, ap, ◌∙◌}
-use mathlib.Core.Bool.{true, false, true≢false}
-use mathlib.Core.Logic.{◌⊎◌, inl, inr, ◌≢◌}
+use mathlib.Core.Bool.{true}
+use mathlib.Core.Logic.{◌⊎◌, inl, inr}
 use mathlib.Core.List.{List}
 use native.Mathlib.Omega.{arith}
 use lib.Dec.{eqb, ltb}
@@ -37,8 +37,3 @@ module _ (kinds : List ℕ) (few : length kinds / 7 ≤ 128) (c end : ℕ) (ends
       go (inl h) d = ne_eqb (c / 64) 6 (λ e. omega (arith, e)) ∙ sym (ap (condition_fits (kinds_only kinds)) (meant-kind c (omega arith) h) ∙ has-row ∙ le-ltb (c - 256) (length kinds / 7) (omega arith))
       go (inr h) (inl k) = eq-eqb (c / 64) 6 (omega arith) ∙ sym (ap (condition_fits (kinds_only kinds)) (meant-fact c h k))
       go (inr h) (inr k) = ne_eqb (c / 64) 6 (λ e. omega (arith, e)) ∙ sym (ap (condition_fits (kinds_only kinds)) (meant-nothing c k))
-
--- a condition of 0 fits
-pub unfit_not_zero : (kinds : List ℕ) (c : ℕ) → condition_fits (kinds_only kinds) (meant c) ≡ false → c ≢ 0
-unfolding condition_fits
-unfit_not_zero kinds c e z = true≢false (sym (ap (condition_fits (kinds_only kinds)) (meant-role c (omega (arith, z)))) ∙ e)

@@ -2,3 +2,5 @@ pub mod Places
 pub mod Conditions
 pub mod Rights
 pub mod Unread
+pub mod Parts
+pub mod InTurn

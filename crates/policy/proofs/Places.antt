@@ -1,105 +1,66 @@
--- Places of which the first n count: the table that says which do, what is wrong with a number at a place, and all of them joined.
+-- Numbers of which the first n count: each is judged beside a mark that says whether it counts.
 use Prim.Native.Nat.{ℕ, zero, suc, ◌+◌, ◌-◌, ◌≤◌, ◌<◌}
 use mathlib.Core.Path.{◌≡◌, refl, sym, ap, ◌∙◌}
-use mathlib.Core.Bool.{Bool, true, false, ◌&&◌, cond, and-true, and_assoc, true≢false}
-use mathlib.Core.Logic.{◌⊎◌, inl, inr, ◌≢◌}
+use mathlib.Core.Bool.{Bool, true, false, ◌&&◌, cond, and_assoc}
 use mathlib.Core.List.{List, [], ◌∷◌, ◌++◌}
 use native.Mathlib.Omega.{arith}
 use native.Mathlib.Numerals.{add-one}
 use lib.Bits.{bit_or}
-use lib.Dec.{eqb, ltb}
-use borrow.Author.Tests.{ne_eqb, lt-ltb, le-ltb}
-use lib.ListN.{length, get_or, take, drop}
-use lib.Seq.{take-suc, length-take-le}
+use lib.Dec.{eqb}
+use lib.ListN.{length, take, drop, replicate, get_or}
+use lib.Seq.{drop-cons}
+use Rattle.std.proofs.lemmas.List.{drop-replicate, drop-append-le, drop_all}
 use Rattle.model.specs.Lists.{all, is_zero}
-use Rattle.model.proofs.Tests.{below, below_at, of_true, lt_or_ge}
 use Rattle.table.proofs.Zeros.{join_zero}
-use Rattle.policy.specs.Counting.{Counting}
 
--- ── the table ──
+-- ── the marks ──
 
--- both or neither
-abbrev same : Bool → Bool → Bool
-same true b = b
-same false true = false
-same false false = true
+abbrev pub marks : List Bool
+marks = true ∷ true ∷ true ∷ true ∷ true ∷ true ∷ true ∷ true ∷ false ∷ false ∷ false ∷ false ∷ false ∷ false ∷ false ∷ false ∷ []
 
-alike : (a b : Bool) → same a b ≡ true → a ≡ b
-alike true b e = sym e
-alike false true e = absurd (true≢false (sym e))
-alike false false e = refl
+marks-from : (n : ℕ) → n ≤ 8 → drop (8 - n) marks ≡ replicate n true ++ replicate 8 false
+marks-from n h =
+    let few : 8 - n ≤ length (replicate 8 true) = omega arith in
+    let left : 8 - (8 - n) ≡ n = omega arith in
+    drop-append-le (8 - n) (replicate 8 true) (replicate 8 false) few
+    ∙ ap (λ (l : List Bool). l ++ replicate 8 false) (drop-replicate (8 - n) 8 true ∙ ap (λ (k : ℕ). replicate k true) left)
 
-abbrev table : List ℕ
-table = 1 ∷ 1 ∷ 1 ∷ 1 ∷ 1 ∷ 1 ∷ 1 ∷ 1 ∷ 0 ∷ 0 ∷ 0 ∷ 0 ∷ 0 ∷ 0 ∷ 0 ∷ 0 ∷ []
+-- ── numbers beside marks ──
 
--- the entry says what the test says: tried for each n and j
-abbrev agrees : ℕ → ℕ → Bool
-agrees n j = same (eqb (get_or table (8 - n + j) 0) 1) (ltb j n)
+module _ (test : ℕ → Bool) where
+  -- a number whose mark says that it counts passes the test, any other is 0
+  abbrev pub fit : List ℕ → List Bool → Bool
+  fit [] bs = true
+  fit (x ∷ xs) [] = true
+  fit (x ∷ xs) (b ∷ bs) = cond b (test x) (is_zero x) && fit xs bs
 
-pub counting_is : Counting table
-counting_is =
-    record {
-      size = refl;
-      each = λ n j h l. alike (eqb (get_or table (8 - n + j) 0) 1) (ltb j n) (below_at (agrees n) 8 (of_true (below (agrees n) 8) (below_at (λ (m : ℕ). below (agrees m) 8) 9 tt n (omega arith))) j l);
-    }
+  none_count : (m : ℕ) (xs : List ℕ) → length xs ≤ m → fit xs (replicate m false) ≡ all is_zero xs
+  none_count zero [] h = refl
+  none_count (suc m) [] h = refl
+  none_count zero (x ∷ xs) h = absurd (omega arith)
+  none_count (suc m) (x ∷ xs) h = ap (λ (b : Bool). is_zero x && b) (none_count m xs (omega arith))
 
--- ── what is wrong with a number ──
+  first_count : (n m : ℕ) (xs : List ℕ) → length xs ≤ m → fit xs (replicate n true ++ replicate m false) ≡ (all test (take n xs) && all is_zero (drop n xs))
+  first_count zero m xs h = none_count m xs h
+  first_count (suc n) m [] h = refl
+  first_count (suc n) m (x ∷ xs) h = ap (λ (b : Bool). test x && b) (first_count n m xs (omega arith)) ∙ sym (and_assoc (test x) (all test (take n xs)) (all is_zero (drop n xs)))
 
-module _ (x : ℕ) (fits counts : Bool) where
-  pub counts-fits : fits ≡ true → counts ≡ true → true ≡ cond counts fits (is_zero x)
-  counts-fits f c = sym (λ i. cond (c i) (f i) (is_zero x))
+  -- the marks from 8 - n on say that the first n count
+  pub first-counted : (n : ℕ) (xs : List ℕ) → n ≤ 8 → length xs ≤ 8 → fit xs (drop (8 - n + 0) marks) ≡ (all test (take n xs) && all is_zero (drop n xs))
+  first-counted n xs h few = let e : 8 - n + 0 ≡ 8 - n = omega arith in ap (λ (k : ℕ). fit xs (drop k marks)) e ∙ ap (fit xs) (marks-from n h) ∙ first_count n 8 xs few
 
-  pub past_fits : counts ≡ false → eqb x 0 ≡ cond counts fits (is_zero x)
-  past_fits c = sym (ap (λ (b : Bool). cond b fits (is_zero x)) c)
+  -- what is wrong with the number at place j is joined
+  pub fit_more : (wrong this j m : ℕ) (fits : Bool) (xs : List ℕ) → j < length xs → m + j < 16 → fits ≡ test (get_or xs j 0) → eqb this 0 ≡ cond (get_or marks (m + j) false) fits (is_zero (get_or xs j 0))
+      → (eqb (bit_or wrong this) 0 && fit (drop (j + 1) xs) (drop (m + (j + 1)) marks)) ≡ (eqb wrong 0 && fit (drop j xs) (drop (m + j) marks))
+  fit_more wrong this j m fits xs h k f w =
+      let next : m + (j + 1) ≡ suc (m + j) = omega arith in
+      let ahead : Bool = fit (drop (j + 1) xs) (drop (m + (j + 1)) marks) in
+      ap (λ (b : Bool). b && ahead) (join_zero wrong this)
+      ∙ and_assoc (eqb wrong 0) (eqb this 0) ahead
+      ∙ ap (λ (b : Bool). eqb wrong 0 && (b && ahead)) (w ∙ ap (λ (b : Bool). cond (get_or marks (m + j) false) b (is_zero (get_or xs j 0))) f)
+      ∙ ap (λ (l : List ℕ). eqb wrong 0 && (cond (get_or marks (m + j) false) (test (get_or xs j 0)) (is_zero (get_or xs j 0)) && fit l (drop (m + (j + 1)) marks))) (ap (λ (i : ℕ). drop i xs) (add-one j))
+      ∙ ap (λ (i : ℕ). eqb wrong 0 && (cond (get_or marks (m + j) false) (test (get_or xs j 0)) (is_zero (get_or xs j 0)) && fit (drop (suc j) xs) (drop i marks))) next
+      ∙ sym (λ i. eqb wrong 0 && fit (drop-cons xs j 0 h i) (drop-cons marks (m + j) false k i))
 
-  pub unfit : (fits ≡ false → x ≢ 0) → fits ≡ false → false ≡ cond counts fits (is_zero x)
-  unfit n f = sym (go counts)
-    where
-      go : (b : Bool) → cond b fits (is_zero x) ≡ false
-      go true = f
-      go false = ne_eqb x 0 (n f)
-
--- ── what is wrong with several, joined ──
-
-module _ (fits : ℕ → Bool) where
-  -- what is asked of the number at place j
-  abbrev asked : ℕ → ℕ → ℕ → Bool
-  asked n j c = cond (ltb j n) (fits c) (is_zero c)
-
-  -- all that is asked of numbers of which the first n count
-  abbrev pub mixed : ℕ → List ℕ → Bool
-  mixed n [] = true
-  mixed zero (c ∷ cs) = is_zero c && mixed zero cs
-  mixed (suc n) (c ∷ cs) = fits c && mixed n cs
-
-  mixed_zero : (cs : List ℕ) → mixed zero cs ≡ all is_zero cs
-  mixed_zero [] = refl
-  mixed_zero (c ∷ cs) = ap (λ (v : Bool). is_zero c && v) (mixed_zero cs)
-
-  pub mixed_parts : (n : ℕ) (cs : List ℕ) → mixed n cs ≡ (all fits (take n cs) && all is_zero (drop n cs))
-  mixed_parts zero [] = refl
-  mixed_parts (suc n) [] = refl
-  mixed_parts zero (c ∷ cs) = ap (λ (v : Bool). is_zero c && v) (mixed_zero cs)
-  mixed_parts (suc n) (c ∷ cs) = go (fits c) (mixed_parts n cs)
-    where
-      go : (b : Bool) → mixed n cs ≡ (all fits (take n cs) && all is_zero (drop n cs)) → (b && mixed n cs) ≡ ((b && all fits (take n cs)) && all is_zero (drop n cs))
-      go true e = e
-      go false e = refl
-
-  -- one number more
-  mixed_last : (n : ℕ) (cs : List ℕ) (c : ℕ) → mixed n (cs ++ (c ∷ [])) ≡ (mixed n cs && asked n (length cs) c)
-  mixed_last zero [] c = and-true (is_zero c) ∙ ap (λ (b : Bool). cond b (fits c) (is_zero c)) (sym (le-ltb 0 0 (omega arith)))
-  mixed_last (suc n) [] c = and-true (fits c) ∙ ap (λ (b : Bool). cond b (fits c) (is_zero c)) (sym (lt-ltb 0 (suc n) (omega arith)))
-  mixed_last zero (d ∷ cs) c = ap (λ (v : Bool). is_zero d && v) (mixed_last zero cs c ∙ ap (λ (b : Bool). mixed zero cs && cond b (fits c) (is_zero c)) (le-ltb (length cs) 0 (omega arith) ∙ sym (le-ltb (suc (length cs)) 0 (omega arith)))) ∙ sym (and_assoc (is_zero d) (mixed zero cs) _)
-  mixed_last (suc n) (d ∷ cs) c = ap (λ (v : Bool). fits d && v) (mixed_last n cs c ∙ ap (λ (b : Bool). mixed n cs && cond b (fits c) (is_zero c)) (same (lt_or_ge (length cs) n))) ∙ sym (and_assoc (fits d) (mixed n cs) _)
-    where
-      same : (length cs < n) ⊎ (n ≤ length cs) → ltb (length cs) n ≡ ltb (suc (length cs)) (suc n)
-      same (inl h) = lt-ltb (length cs) n h ∙ sym (lt-ltb (suc (length cs)) (suc n) (omega (arith, h)))
-      same (inr h) = le-ltb (length cs) n h ∙ sym (le-ltb (suc (length cs)) (suc n) (omega (arith, h)))
-
-  pub mixed_more : (n j over x : ℕ) (cs : List ℕ) → j < length cs → eqb over 0 ≡ mixed n (take j cs) → eqb x 0 ≡ asked n j (get_or cs j 0) → eqb (bit_or over x) 0 ≡ mixed n (take (j + 1) cs)
-  mixed_more n j over x cs h e d =
-      join_zero over x
-      ∙ (λ i. e i && d i)
-      ∙ ap (λ (m : ℕ). mixed n (take j cs) && asked n m (get_or cs j 0)) (sym (length-take-le j cs (omega arith)))
-      ∙ sym (ap (λ (m : ℕ). mixed n (take m cs)) (add-one j) ∙ ap (mixed n) (take-suc cs j 0 h) ∙ mixed_last n (take j cs) (get_or cs j 0))
+  pub all-judged : (xs : List ℕ) (j : ℕ) (bs : List Bool) → length xs ≤ j → fit (drop j xs) bs ≡ true
+  all-judged xs j bs h = ap (λ (l : List ℕ). fit l bs) (drop_all j xs h)

@@ -1,125 +1,96 @@
--- Rights that are judged by their numbers: sixteen at a time, and then one by one.
-use Prim.Native.Nat.{ℕ, zero, suc, ◌+◌, ◌*◌, ◌/◌, ◌≤◌, ◌<◌}
+-- Rights that are judged by their numbers, sixteen at a time.
+use Prim.Native.Nat.{ℕ, zero, suc, ◌+◌, ◌*◌, ◌/◌, ◌%◌}
 use mathlib.Core.Path.{◌≡◌, refl, sym, ap, ◌∙◌}
-use mathlib.Core.Bool.{Bool, true, false, ◌&&◌, and-true, and-false, and_assoc}
-use mathlib.Core.Logic.{◌⊎◌, inl, inr}
+use mathlib.Core.Bool.{Bool, true, false, not, ◌&&◌, ◌||◌, and-true, and_assoc}
 use mathlib.Core.List.{List, [], ◌∷◌}
 use native.Mathlib.Omega.{arith}
-use native.Mathlib.Nat.{div-eq_of_lt, le-div_iff_mul-le}
-use native.Mathlib.Numerals.{add-one}
-use lib.Bits.{bit_or}
-use lib.Dec.{eqb, ltb}
-use borrow.Author.Tests.{eq-eqb, ne_eqb, eqb-true, lt-ltb, le-ltb}
-use lib.ListN.{get_or}
+use lib.Dec.{ltb}
+use lib.ListN.{length, take, drop}
+use lib.Seq.{drop-drop}
+use Rattle.std.specs.List.{fold, zip}
+use Rattle.std.specs.Simd.{first_chunks}
 use Rattle.model.specs.Lists.{all}
-use Rattle.model.specs.Layout.{right_from}
+use Rattle.model.specs.Layout.{right_from, policy_of}
 use Rattle.model.specs.Sound.{right_clauses, right_fits}
-use Rattle.model.specs.declared.Right.{Right}
-use Rattle.model.proofs.Tests.{all_append, lt_or_ge, below_at}
-use Rattle.table.specs.Entries.{entries, entry, right_at}
-use Rattle.table.proofs.Entries.{entries_more, right_places}
-use Rattle.table.proofs.Zeros.{join_zero}
-use Rattle.policy.specs.Counting.{RightLimits, keeps}
+use Rattle.table.specs.Entries.{lent}
+use Rattle.policy.specs.Fitting.{first_rights_fit}
 
--- ── the table of limits ──
+-- ── the numbers beside their limits ──
 
-abbrev pairs : List ℕ
-pairs =
-    256 ∷ 1024 ∷ 256 ∷ 1024 ∷ 256 ∷ 1024 ∷ 256 ∷ 1024 ∷ 256 ∷ 1024 ∷ 256 ∷ 1024 ∷ 256 ∷ 1024 ∷ 256 ∷ 1024 ∷ 256 ∷ 1024 ∷ 256 ∷ 1024 ∷ 256 ∷ 1024 ∷ 256 ∷ 1024 ∷ 256 ∷ 1024 ∷ 256 ∷ 1024 ∷ 256 ∷ 1024 ∷ 256 ∷ 1024 ∷ []
+abbrev pub pairs : ℕ → List ℕ
+pairs zero = []
+pairs (suc m) = 256 ∷ 1024 ∷ pairs m
 
-pub limits_are : RightLimits pairs
-limits_are =
-    record {
-      size = refl;
-      role = λ m h. eqb-true (get_or pairs (m * 2) 0) 256 (below_at (λ (k : ℕ). eqb (get_or pairs (k * 2) 0) 256) 16 tt m h);
-      privilege = λ m h. eqb-true (get_or pairs (m * 2 + 1) 0) 1024 (below_at (λ (k : ℕ). eqb (get_or pairs (k * 2 + 1) 0) 1024) 16 tt m h);
-    }
+-- a number that does not keep its limit is joined
+abbrev pub over : Bool → ℕ × ℕ → Bool
+over so_far number = so_far || not (ltb number.0 number.1)
 
--- ── sixteen rights ──
+sorted : (o a b rest : Bool) → (not ((o || not a) || not b) && rest) ≡ (not o && ((a && (b && true)) && rest))
+sorted true a b rest = refl
+sorted false true true rest = refl
+sorted false true false rest = refl
+sorted false false b rest = refl
 
-module _ (rights : List ℕ) where
-  -- the first i rights fit
-  abbrev pub first_fit : ℕ → Bool
-  first_fit i = all right_fits (entries right_from 2 rights i)
+pub within : (m : ℕ) (numbers : List ℕ) (o : Bool) → length numbers ≡ m * 2 → not (fold over o (zip numbers (pairs m))) ≡ (not o && first_rights_fit m numbers)
+unfolding first_rights_fit right_clauses
+within zero [] o h = sym (and-true (not o))
+within zero (x ∷ l) o h = absurd (omega arith)
+within (suc m) [] o h = absurd (omega arith)
+within (suc m) (x ∷ []) o h = absurd (omega arith)
+within (suc m) (x ∷ y ∷ l) o h = within m l (over (over o (x, 256)) (y, 1024)) (omega arith) ∙ sorted o (ltb x 256) (ltb y 1024) (first_rights_fit m l)
 
-  fit_next : (i : ℕ) → first_fit (i + 1) ≡ (first_fit i && right_fits (right_at rights i))
-  unfolding right_at
-  fit_next i = ap (all right_fits) (entries_more right_from 2 rights i) ∙ all_append right_fits (entries right_from 2 rights i) (entry right_from 2 rights i ∷ []) ∙ ap (λ (b : Bool). first_fit i && b) (and-true (right_fits (right_at rights i)))
+-- ── sixteen at a time ──
 
-  -- what does not fit among the first does not fit among more
-  pub unfit_stays : (i d : ℕ) → first_fit i ≡ false → first_fit (i + d) ≡ false
-  unfit_stays i zero e = let at : i + 0 ≡ i = omega arith in ap first_fit at ∙ e
-  unfit_stays i (suc d) e = let at : i + suc d ≡ i + d + 1 = omega arith in ap first_fit at ∙ fit_next (i + d) ∙ ap (λ (b : Bool). b && right_fits (right_at rights (i + d))) (unfit_stays i d e)
-
-  module _ (limits : List ℕ) (l : RightLimits limits) (i : ℕ) where
-    numbers : (m : ℕ) → m < 16 → (ltb (get_or rights (i * 2 + m * 2) 0) (get_or limits (m * 2) 0) && ltb (get_or rights (i * 2 + (m * 2 + 1)) 0) (get_or limits (m * 2 + 1) 0)) ≡ right_fits (right_at rights (i + m))
-    unfolding right_clauses
-    numbers m h =
-        let at : i * 2 + m * 2 ≡ (i + m) * 2 = omega arith in
-        let next : i * 2 + (m * 2 + 1) ≡ (i + m) * 2 + 1 = omega arith in
-        (λ j. ltb (get_or rights (at j) 0) (l.role m h j) && ltb (get_or rights (next j) 0) (l.privilege m h j))
-        ∙ ap (λ (b : Bool). ltb (get_or rights ((i + m) * 2) 0) 256 && b) (sym (and-true (ltb (get_or rights ((i + m) * 2 + 1) 0) 1024)))
-        ∙ ap right_fits (sym (right_places rights (i + m)))
-
-    keeps-next : (m : ℕ) → keeps rights limits (i * 2) (suc m * 2) ≡ ((keeps rights limits (i * 2) (m * 2) && ltb (get_or rights (i * 2 + m * 2) 0) (get_or limits (m * 2) 0)) && ltb (get_or rights (i * 2 + (m * 2 + 1)) 0) (get_or limits (m * 2 + 1) 0))
-    unfolding keeps
-    keeps-next m =
-        let two : suc m * 2 ≡ suc (suc (m * 2)) = omega arith in
-        let one : suc (m * 2) ≡ m * 2 + 1 = omega arith in
-        ap (keeps rights limits (i * 2)) two
-        ∙ ap (λ (k : ℕ). (keeps rights limits (i * 2) (m * 2) && ltb (get_or rights (i * 2 + m * 2) 0) (get_or limits (m * 2) 0)) && ltb (get_or rights (i * 2 + k) 0) (get_or limits k 0)) one
-
-    fit_so_far : (m : ℕ) → m ≤ 16 → first_fit (i + m) ≡ (first_fit i && keeps rights limits (i * 2) (m * 2))
-    unfolding keeps
-    fit_so_far zero h = let at : i + 0 ≡ i = omega arith in ap first_fit at ∙ sym (and-true (first_fit i))
-    fit_so_far (suc m) h =
-        let at : i + suc m ≡ i + m + 1 = omega arith in
-        ap first_fit at
-        ∙ fit_next (i + m)
-        ∙ (λ j. fit_so_far m (omega arith) j && sym (numbers m (omega arith)) j)
-        ∙ regroup (first_fit i) (keeps rights limits (i * 2) (m * 2)) _ _
-        ∙ ap (λ (b : Bool). first_fit i && b) (sym (keeps-next m))
-      where
-        regroup : (a b c d : Bool) → ((a && b) && (c && d)) ≡ (a && ((b && c) && d))
-        regroup true true c d = refl
-        regroup true false c d = refl
-        regroup false b c d = refl
-
-    -- sixteen rights more
-    pub fit_sixteen : first_fit (i + 16) ≡ (first_fit i && keeps rights limits (i * 2) 32)
-    fit_sixteen = fit_so_far 16 (omega arith)
-
--- one number more
-module _ (rights limits : List ℕ) (from j : ℕ) where
-  next : keeps rights limits from (j + 1) ≡ (keeps rights limits from j && ltb (get_or rights (from + j) 0) (get_or limits j 0))
-  unfolding keeps
-  next = ap (keeps rights limits from) (add-one j)
-
-  pub keeps_over : get_or limits j 0 ≤ get_or rights (from + j) 0 → false ≡ keeps rights limits from (j + 1)
-  keeps_over h = sym (next ∙ ap (λ (b : Bool). keeps rights limits from j && b) (le-ltb (get_or rights (from + j) 0) (get_or limits j 0) h) ∙ and-false (keeps rights limits from j))
-
-  pub keeps-within : (b : Bool) → get_or rights (from + j) 0 < get_or limits j 0 → b ≡ keeps rights limits from j → b ≡ keeps rights limits from (j + 1)
-  keeps-within b h e = e ∙ sym (next ∙ ap (λ (a : Bool). keeps rights limits from j && a) (lt-ltb (get_or rights (from + j) 0) (get_or limits j 0) h) ∙ and-true (keeps rights limits from j))
-
--- ── right by right ──
-
--- a number leaves nothing over exactly if it is below the limit
-none_over : (x limit : ℕ) → 0 < limit → eqb (x / limit) 0 ≡ ltb x limit
-none_over x limit p = go (lt_or_ge x limit)
+-- only the numbers of the first rights are asked
+fit_alone : (m : ℕ) (l : List ℕ) → first_rights_fit m (take (m * 2) l) ≡ first_rights_fit m l
+unfolding first_rights_fit
+fit_alone zero l = refl
+fit_alone (suc m) l =
+    let e : suc m * 2 ≡ suc (suc (m * 2)) = omega arith in
+    ap (λ (k : ℕ). first_rights_fit (suc m) (take k l)) e ∙ two (m * 2) l ∙ ap (λ (b : Bool). right_fits (right_from (take 2 l)) && b) (fit_alone m (drop 2 l))
   where
-    go : (x < limit) ⊎ (limit ≤ x) → eqb (x / limit) 0 ≡ ltb x limit
-    go (inl h) = eq-eqb (x / limit) 0 (div-eq_of_lt h) ∙ sym (lt-ltb x limit h)
-    go (inr h) = ne_eqb (x / limit) 0 (λ e. omega (arith, e, (le-div_iff_mul-le {x = 1} {y = x} p).1 (omega (arith, h)))) ∙ sym (le-ltb x limit h)
+    two : (k : ℕ) (xs : List ℕ) → first_rights_fit (suc m) (take (suc (suc k)) xs) ≡ (right_fits (right_from (take 2 xs)) && first_rights_fit m (take k (drop 2 xs)))
+    two zero [] = refl
+    two (suc k) [] = refl
+    two zero (x ∷ []) = refl
+    two (suc k) (x ∷ []) = refl
+    two k (x ∷ y ∷ xs) = refl
 
-right_over : (over : ℕ) (r : Right) → eqb (bit_or (bit_or over (r.role / 256)) (r.privilege / 1024)) 0 ≡ (eqb over 0 && right_fits r)
-unfolding right_clauses
-right_over over r =
-    join_zero (bit_or over (r.role / 256)) (r.privilege / 1024)
-    ∙ (λ i. join_zero over (r.role / 256) i && none_over r.privilege 1024 (omega arith) i)
-    ∙ (λ i. (eqb over 0 && none_over r.role 256 (omega arith) i) && ltb r.privilege 1024)
-    ∙ and_assoc (eqb over 0) (ltb r.role 256) (ltb r.privilege 1024)
-    ∙ ap (λ (v : Bool). eqb over 0 && (ltb r.role 256 && v)) (sym (and-true (ltb r.privilege 1024)))
+fit-parts : (m n : ℕ) (l : List ℕ) → first_rights_fit (m + n) l ≡ (first_rights_fit m l && first_rights_fit n (drop (m * 2) l))
+unfolding first_rights_fit
+fit-parts zero n l = let e : zero + n ≡ n = omega arith in ap (λ (k : ℕ). first_rights_fit k l) e
+fit-parts (suc m) n l =
+    let e : suc m + n ≡ suc (m + n) = omega arith in
+    let d : suc m * 2 ≡ 2 + m * 2 = omega arith in
+    ap (λ (k : ℕ). first_rights_fit k l) e
+    ∙ ap (λ (b : Bool). right_fits (right_from (take 2 l)) && b) (fit-parts m n (drop 2 l))
+    ∙ sym (and_assoc (right_fits (right_from (take 2 l))) (first_rights_fit m (drop 2 l)) (first_rights_fit n (drop (m * 2) (drop 2 l))))
+    ∙ ap (λ (xs : List ℕ). first_rights_fit (suc m) l && first_rights_fit n xs) (drop-drop (m * 2) 2 l ∙ ap (λ (k : ℕ). drop k l) (sym d))
 
--- one right more, judged by what its numbers leave over
-pub right_more : (rights : List ℕ) (i over : ℕ) (r : Right) → r ≡ right_at rights i → eqb over 0 ≡ first_fit rights i → eqb (bit_or (bit_or over (r.role / 256)) (r.privilege / 1024)) 0 ≡ first_fit rights (i + 1)
-right_more rights i over r e h = right_over over r ∙ (λ k. h k && right_fits (e k)) ∙ sym (fit_next rights i)
+by_sixteens : (k : ℕ) (l : List ℕ) → all (first_rights_fit 16) (first_chunks 32 k l) ≡ first_rights_fit (k * 16) l
+unfolding first_rights_fit
+by_sixteens zero l = refl
+by_sixteens (suc k) l =
+    let e : 16 + k * 16 ≡ suc k * 16 = omega arith in
+    (λ i. fit_alone 16 l i && by_sixteens k (drop 32 l) i) ∙ sym (fit-parts 16 (k * 16) l) ∙ ap (λ (m : ℕ). first_rights_fit m l) e
+
+-- the right that two numbers make fits
+abbrev pub alone_fits : List ℕ → Bool
+alone_fits numbers = right_fits (right_from numbers)
+
+one_by_one : (k : ℕ) (l : List ℕ) → all alone_fits (first_chunks 2 k l) ≡ first_rights_fit k l
+unfolding first_rights_fit
+one_by_one zero l = refl
+one_by_one (suc k) l = ap (λ (b : Bool). right_fits (right_from (take 2 l)) && b) (one_by_one k (drop 2 l))
+
+-- sixteen at a time, and then one by one what is left
+pub sixteens_and_rest : (l rest : List ℕ) → rest ≡ drop (length l / 32 * 32) l → length rest ≡ length l % 32
+    → (all (first_rights_fit 16) (first_chunks 32 (length l / 32) l) && all alone_fits (first_chunks 2 (length rest / 2) rest)) ≡ all right_fits (policy_of (lent [] [] l)).rights
+unfolding policy_of first_rights_fit
+sixteens_and_rest l rest e size =
+    let at : length l / 32 * 32 ≡ length l / 32 * 16 * 2 = omega arith in
+    let count : length l / 32 * 16 + length rest / 2 ≡ length l / 2 = omega arith in
+    (λ i. by_sixteens (length l / 32) l i && one_by_one (length rest / 2) rest i)
+    ∙ ap (λ (xs : List ℕ). first_rights_fit (length l / 32 * 16) l && first_rights_fit (length rest / 2) xs) (e ∙ ap (λ (k : ℕ). drop k l) at)
+    ∙ sym (fit-parts (length l / 32 * 16) (length rest / 2) l)
+    ∙ ap (λ (k : ℕ). first_rights_fit k l) count

@@ -2,21 +2,25 @@
 
 #![tactic(auto)]
 
-ghost use Rattle.std.specs.Prelude.{◌≡◌, ℕ, ◌+◌, ◌/◌, ◌<◌, ◌≤◌, [], true, false, ◌&&◌, cond, ◌≢◌, eqb, ltb, length, take, drop};
+ghost use Rattle.std.specs.Prelude.{◌≡◌, ℕ, Bool, ◌+◌, ◌/◌, ◌<◌, ◌≤◌, ◌&&◌, cond, eqb, length, take, drop};
+ghost use Rattle.model.specs.Answered.{tables_of};
 ghost use Rattle.model.specs.Lists.{all, is_zero};
-ghost use Rattle.model.specs.Limits.{roles, most_kinds, kind_width, right_width, rule_width};
-ghost use Rattle.model.specs.Layout.{policy_of, right_from};
+ghost use Rattle.model.specs.Limits.{kind_width, most_kinds};
+ghost use Rattle.model.specs.Layout.{right_from};
 ghost use Rattle.model.specs.Conditions.{meant};
 ghost use Rattle.model.specs.Sound.{condition_fits, rule_fits, kind_fits, right_fits, sound_policy};
-ghost use Rattle.table.specs.Entries.{entries, rule_at, kind_at, lent, without_rights, kinds_only};
-ghost use Rattle.policy.specs.Counting.{Counting, RightLimits, keeps};
+ghost use Rattle.table.specs.Entries.{rules_only, kinds_only};
+ghost use Rattle.policy.specs.Fitting.{has_form, tables_formed, rights_only, first_rights_fit, rows_fit};
 
 use model::{
-    FACTS, FIRST_KIND, KIND_WIDTH, MOST_KINDS, MOST_RIGHTS, MOST_RULES, PRIVILEGES, RIGHT_WIDTH,
-    ROLES, RULE_WIDTH,
+    FACTS, FIRST_FACT, FIRST_KIND, KIND_WIDTH, Kind, Lent, MOST_CONDITIONS, MOST_KINDS,
+    MOST_PREREQUISITES, MOST_RIGHTS, MOST_RULES, PRIVILEGES, RIGHT_WIDTH, ROLES, RULE_WIDTH, Rule,
 };
 
 const MODES: u16 = 3;
+
+// The facts are 64 conditions, which begin at six times 64: one division knows them.
+const FACTS_PART: u16 = FIRST_FACT / FACTS;
 
 // Where the conditions that are kinds of the policy end.
 fn end_of_kinds(kinds: &[u16]) -> u16
@@ -27,236 +31,145 @@ fn end_of_kinds(kinds: &[u16]) -> u16
 }
 
 // "0 to 255 a role; 256 to 383 certificate kind .., which must be a row of the kinds table; 384 to 447 environment fact ..; 448 and above
-// malformed." There are 64 facts, and they begin at six times 64: one division knows them.
+// malformed."
 fn condition_fits(kinds: &[u16], c: u16) -> bool
     requires { length kinds.now / kind_width ≤ most_kinds }
     ensures { result ≡ condition_fits (kinds_only kinds.now) (meant c) }
 {
-    if c < end_of_kinds(kinds) {
-        return true;
-    }
-    c / FACTS == 6
+    c < end_of_kinds(kinds) || c / FACTS == FACTS_PART
 }
 
-// Eight places that count, and eight that do not: entry 8 - n + j is 1 if place j is one of the first n. What stands in a table needs no
+// Eight places that count, and eight that do not: of eight places from entry 8 - n on, the first n count. What stands in a table needs no
 // branch, so that the machine may judge eight places in one step.
-fn counting() -> [u16; 16]
-    ensures { Counting result }
-{
-    [1, 1, 1, 1, 1, 1, 1, 1, 0, 0, 0, 0, 0, 0, 0, 0]
-}
+const COUNTING: [bool; 16] = [
+    true, true, true, true, true, true, true, true, false, false, false, false, false, false,
+    false, false,
+];
 
 // 0 if nothing is wrong with the number: one that counts fits, and one past those is 0.
 fn wrong(x: u16, fits: bool, counts: bool) -> u16
-    requires { fits ≡ false → x ≢ 0 }
     ensures { eqb result 0 ≡ cond counts fits (is_zero x) }
 {
-    if fits {
-        if counts {
-            return 0;
-        }
-        return x;
-    }
-    1
+    if counts { u16::from(!fits) } else { x }
 }
 
-// The first n of the conditions fit, and those past n are 0. What is wrong is joined: all eight are looked at, in one way through the loop.
-fn conditions_fit(kinds: &[u16], counting: &[u16], conditions: [u16; 8], n: usize) -> bool
-    requires { (length kinds.now / kind_width ≤ most_kinds) × Counting counting.now × (n ≤ 8) }
-    ensures { result ≡ (all (λ (c : ℕ). condition_fits (kinds_only kinds.now) (meant c)) (take n conditions) && all is_zero (drop n conditions)) }
+// The first n of the numbers fit, and those past n are 0. What is wrong is joined: all are looked at, in one way through the loop. Places
+// are counted, as over a zip the machine would judge one at a time.
+fn first_fit<const N: usize, F: Fn(u16) -> bool>(numbers: [u16; N], n: usize, fits: F) -> bool
+    requires callable { F.IsAlwaysCallable fits }
+    requires few { (n ≤ N) × (N ≤ 8) }
+    ensures { (test : ℕ → Bool) → ((x : ℕ) (b : Bool) → F.post fits x b → b ≡ test x) → result ≡ (all test (take n numbers.entry) && all is_zero (drop n numbers.entry)) }
 {
-    let mut joined: u16 = 0;
-    let mut j: usize = 0;
-    while j < 8 {
-        let c = conditions[j];
-        joined = joined | wrong(c, condition_fits(kinds, c), counting[8 - n + j] == 1);
-        j += 1;
+    let mut joined = 0;
+    for j in 0..N {
+        let x = numbers[j];
+        joined |= wrong(x, fits(x), COUNTING[MOST_CONDITIONS - n + j]);
     }
     joined == 0
 }
 
 // "target role, n, m, then eight conditions, those past n being 0. m ≤ n ≤ 8."
-fn rule_fits(rules: &[u16], kinds: &[u16], counting: &[u16], i: usize) -> bool
-    requires { (i < length rules.now / rule_width) × (length kinds.now / kind_width ≤ most_kinds) × Counting counting.now }
-    ensures { result ≡ rule_fits (kinds_only kinds.now) (rule_at rules.now i) }
+#[tactic(auto, unfolding(model::specs::Sound::rule_clauses))]
+fn rule_fits(kinds: &[u16], rule: Rule) -> bool
+    requires { length kinds.now / kind_width ≤ most_kinds }
+    ensures { result ≡ rule_fits (kinds_only kinds.now) rule }
 {
-    let rule = table::rule_at(rules, i);
-    if rule.target >= ROLES {
-        return false;
-    }
-    if rule.m > rule.n {
-        return false;
-    }
-    if rule.n > 8 {
-        return false;
-    }
-    let n = rule.n as usize;
-    let conditions = rule.conditions;
-    if !conditions_fit(kinds, counting, conditions, n) {
-        return false;
-    }
-    true
+    let n = usize::from(rule.n);
+    rule.target < ROLES
+        && rule.m <= rule.n
+        && n <= MOST_CONDITIONS
+        && first_fit(rule.conditions, n, |c| condition_fits(kinds, c))
 }
 
-fn rules_fit(rules: &[u16], kinds: &[u16], counting: &[u16]) -> bool
-    requires { (length kinds.now / kind_width ≤ most_kinds) × Counting counting.now }
-    ensures { result ≡ all (rule_fits (kinds_only kinds.now)) (policy_of (without_rights rules.now [])).rules }
+fn rules_fit(policy: Lent) -> bool
+    requires { length policy.kinds.now / kind_width ≤ most_kinds }
+    ensures { result ≡ all (rule_fits (kinds_only policy.entry.kinds.now)) (rules_only policy.entry.rules.now).rules }
 {
-    let n = rules.len() / RULE_WIDTH;
-    let mut i: usize = 0;
-    while i < n {
-        if !rule_fits(rules, kinds, counting, i) {
-            return false;
-        }
-        i += 1;
-    }
-    true
-}
-
-// The first s of the prerequisites are roles, and those past s are 0. What is wrong is joined, as for conditions.
-fn prerequisites_fit(counting: &[u16], prerequisites: [u16; 4], s: usize) -> bool
-    requires { Counting counting.now × (s ≤ 4) }
-    ensures { result ≡ (all (λ (q : ℕ). ltb q roles) (take s prerequisites) && all is_zero (drop s prerequisites)) }
-{
-    let mut joined: u16 = 0;
-    let mut j: usize = 0;
-    while j < 4 {
-        let q = prerequisites[j];
-        joined = joined | wrong(q, q < ROLES, counting[8 - s + j] == 1);
-        j += 1;
-    }
-    joined == 0
+    (0..policy.rules.len() / RULE_WIDTH).all(|i| rule_fits(
+        policy.kinds,
+        table::rule_at(policy.rules, i),
+    ))
 }
 
 // "appointer role, mode, s, then four prerequisite roles, those past s being 0. s ≤ 4."
-fn kind_fits(kinds: &[u16], counting: &[u16], k: usize) -> bool
-    requires { (k < length kinds.now / kind_width) × Counting counting.now }
-    ensures { result ≡ kind_fits (kind_at kinds.now k) }
+#[tactic(auto, unfolding(model::specs::Sound::kind_clauses))]
+fn kind_fits(kind: Kind) -> bool
+    ensures { result ≡ kind_fits kind }
 {
-    let kind = table::kind_at(kinds, k);
-    if kind.appointer >= ROLES {
-        return false;
-    }
-    if kind.mode >= MODES {
-        return false;
-    }
-    if kind.s > 4 {
-        return false;
-    }
-    let s = kind.s as usize;
-    let prerequisites = kind.prerequisites;
-    if !prerequisites_fit(counting, prerequisites, s) {
-        return false;
-    }
-    true
+    let s = usize::from(kind.s);
+    kind.appointer < ROLES
+        && kind.mode < MODES
+        && s <= MOST_PREREQUISITES
+        && first_fit(kind.prerequisites, s, |q| q < ROLES)
 }
 
-fn kinds_fit(kinds: &[u16], counting: &[u16]) -> bool
-    requires { Counting counting.now }
+fn kinds_fit(kinds: &[u16]) -> bool
     ensures { result ≡ all kind_fits (kinds_only kinds.now).kinds }
 {
-    let n = kinds.len() / KIND_WIDTH;
-    let mut k: usize = 0;
-    while k < n {
-        if !kind_fits(kinds, counting, k) {
-            return false;
-        }
-        k += 1;
-    }
-    true
+    (0..kinds.len() / KIND_WIDTH).all(|k| kind_fits(table::kind_at(kinds, k)))
 }
 
 // The limits of sixteen rights, one after the other.
-fn limits() -> [u16; 32]
-    ensures { RightLimits result }
+const LIMITS: [u16; 32] = [
+    ROLES, PRIVILEGES, ROLES, PRIVILEGES, ROLES, PRIVILEGES, ROLES, PRIVILEGES, ROLES, PRIVILEGES,
+    ROLES, PRIVILEGES, ROLES, PRIVILEGES, ROLES, PRIVILEGES, ROLES, PRIVILEGES, ROLES, PRIVILEGES,
+    ROLES, PRIVILEGES, ROLES, PRIVILEGES, ROLES, PRIVILEGES, ROLES, PRIVILEGES, ROLES, PRIVILEGES,
+    ROLES, PRIVILEGES,
+];
+
+// Sixteen rights keep their limits. All numbers are looked at, so that the machine may take several in one step.
+fn sixteen_fit(numbers: &[u16; 32]) -> bool
+    ensures { result ≡ first_rights_fit 16 numbers.now }
 {
-    [
-        ROLES, PRIVILEGES, ROLES, PRIVILEGES, ROLES, PRIVILEGES, ROLES, PRIVILEGES, ROLES,
-        PRIVILEGES, ROLES, PRIVILEGES, ROLES, PRIVILEGES, ROLES, PRIVILEGES, ROLES, PRIVILEGES,
-        ROLES, PRIVILEGES, ROLES, PRIVILEGES, ROLES, PRIVILEGES, ROLES, PRIVILEGES, ROLES,
-        PRIVILEGES, ROLES, PRIVILEGES, ROLES, PRIVILEGES,
-    ]
+    !numbers
+        .iter()
+        .zip(&LIMITS)
+        .fold(false, |over, (number, limit)| over | (*number >= *limit))
 }
 
-// 0 if the 32 numbers from a place on keep their limits. All are looked at, so that the machine may take several in one step.
-fn over_limits(rights: &[u16], limits: &[u16], from: usize) -> u16
-    requires { (from + 32 ≤ length rights.now) × (length limits.now ≡ 32) }
-    ensures { eqb result 0 ≡ keeps rights.now limits.now from 32 }
+// "role, privilege", each in its range.
+#[tactic(auto, unfolding(model::specs::Sound::right_clauses))]
+fn right_fits(numbers: &[u16; 2]) -> bool
+    ensures { result ≡ right_fits (right_from numbers.now) }
 {
-    let mut over: u16 = 0;
-    let mut j: usize = 0;
-    while j < 32 {
-        if rights[from + j] >= limits[j] {
-            over = 1;
-        }
-        j += 1;
-    }
-    over
+    numbers[0] < ROLES && numbers[1] < PRIVILEGES
 }
 
-// The rights fit, of which those before a place are known to.
-fn rest_fits(rights: &[u16], from: usize) -> bool
-    requires { (from ≤ length rights.now / right_width) × (all right_fits (entries right_from right_width rights.now from) ≡ true) }
-    ensures { result ≡ all right_fits (policy_of (lent [] [] rights.now)).rights }
-{
-    let n = rights.len() / RIGHT_WIDTH;
-    let mut over: u16 = 0;
-    let mut i = from;
-    while i < n {
-        let right = table::right_at(rights, i);
-        over = over | right.role / ROLES | right.privilege / PRIVILEGES;
-        i += 1;
-    }
-    over == 0
-}
-
-// "role, privilege", each in its range. Sixteen rights at a time, and then what is left of them.
+// Sixteen rights at a time, and then what is left of them.
 fn rights_fit(rights: &[u16]) -> bool
-    ensures { result ≡ all right_fits (policy_of (lent [] [] rights.now)).rights }
+    ensures { result ≡ all right_fits (rights_only rights.now).rights }
 {
-    let limits = limits();
-    let n = rights.len() / RIGHT_WIDTH;
-    let mut i: usize = 0;
-    while i + 16 <= n {
-        if over_limits(rights, &limits, i * RIGHT_WIDTH) != 0 {
-            return false;
-        }
-        i += 16;
-    }
-    rest_fits(rights, i)
+    let (sixteens, rest) = rights.as_chunks::<32>();
+    let (rest, _) = rest.as_chunks::<RIGHT_WIDTH>();
+    sixteens.iter().all(sixteen_fit) && rest.iter().all(right_fits)
+}
+
+// The table has whole rows, and not too many.
+fn has_form(table: &[u16], width: usize, most: usize) -> bool
+    requires { 0 < width }
+    ensures { result ≡ has_form width most table.now }
+{
+    table.len() % width == 0 && table.len() / width <= most
+}
+
+fn tables_formed(policy: Lent) -> bool
+    ensures { result ≡ tables_formed (tables_of policy.entry) }
+{
+    has_form(policy.rules, RULE_WIDTH, MOST_RULES)
+        && has_form(policy.kinds, KIND_WIDTH, MOST_KINDS)
+        && has_form(policy.rights, RIGHT_WIDTH, MOST_RIGHTS)
+}
+
+fn rows_fit(policy: Lent) -> bool
+    requires { length policy.kinds.now / kind_width ≤ most_kinds }
+    ensures { result ≡ rows_fit (tables_of policy.entry) }
+{
+    rules_fit(policy) && kinds_fit(policy.kinds) && rights_fit(policy.rights)
 }
 
 // "A length that isn't a whole number of rows, too many rows, or a row not as above makes the policy malformed; any other is sound."
-pub fn policy_sound(rules: &[u16], kinds: &[u16], rights: &[u16]) -> bool
-    ensures { result ≡ sound_policy (lent rules.now kinds.now rights.now) }
+pub fn policy_sound(policy: Lent) -> bool
+    ensures { result ≡ sound_policy (tables_of policy.entry) }
 {
-    if rules.len() % RULE_WIDTH != 0 {
-        return false;
-    }
-    if kinds.len() % KIND_WIDTH != 0 {
-        return false;
-    }
-    if rights.len() % RIGHT_WIDTH != 0 {
-        return false;
-    }
-    if rules.len() / RULE_WIDTH > MOST_RULES {
-        return false;
-    }
-    if kinds.len() / KIND_WIDTH > MOST_KINDS {
-        return false;
-    }
-    if rights.len() / RIGHT_WIDTH > MOST_RIGHTS {
-        return false;
-    }
-    let counting = counting();
-    if !rules_fit(rules, kinds, &counting) {
-        return false;
-    }
-    if !kinds_fit(kinds, &counting) {
-        return false;
-    }
-    if !rights_fit(rights) {
-        return false;
-    }
-    true
+    tables_formed(policy) && rows_fit(policy)
 }

@@ -3,3 +3,5 @@ pub mod Unread
 pub mod Searching
 pub mod Judged
 pub mod Ranges
+pub mod Forms
+pub mod InTurn

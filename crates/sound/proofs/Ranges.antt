@@ -8,11 +8,11 @@ use lib.Dec.{T, ltb→lt}
 use lib.ListN.{length}
 use Rattle.model.specs.Lists.{all, all_over_earlier}
 use Rattle.model.specs.Values.{Policy, world_of}
-use Rattle.model.specs.Layout.{decode, policy_of, kind_from}
+use Rattle.model.specs.Layout.{decode, policy_of, rule_from, kind_from}
 use Rattle.model.specs.Sound.{row_sound, certificate_clauses, certificate_sound, well_formed, sound_values, sound}
 use Rattle.model.specs.declared.Row.{Row}
 use Rattle.model.proofs.Tests.{is_true, of_true, and_left, and_right, each, all_of, earlier_of}
-use Rattle.table.specs.Entries.{Sized, kinds_only}
+use Rattle.table.specs.Entries.{Sized, rules_only, kinds_only}
 use Rattle.table.proofs.Entries.{length-entries, sized}
 use Rattle.marks.specs.Owned.{InRange, CertificatesInRange}
 use Rattle.sound.specs.Fitting.{fit_clauses, row_fits}
@@ -34,10 +34,14 @@ certificates_range p s few e c m =
     let k : c.kind < length p.kinds = ltb→lt c.kind (length p.kinds) h.1.0 in
     (ltb→lt c.appointee 4096 h.0, omega (arith, k))
 
--- as many kinds as the table has whole rows
-pub few-kinds : (kinds : List ℕ) → length kinds / 7 ≤ 128 → length (kinds_only kinds).kinds ≤ 128
+-- as many rules and kinds as the tables have whole rows
+pub rule_count : (rules : List ℕ) → length (rules_only rules).rules ≡ length rules / 11
 unfolding policy_of
-few-kinds kinds h = omega (arith, h, length-entries kind_from 7 kinds (length kinds / 7))
+rule_count rules = length-entries rule_from 11 rules (length rules / 11)
+
+pub kind_count : (kinds : List ℕ) → length (kinds_only kinds).kinds ≡ length kinds / 7
+unfolding policy_of
+kind_count kinds = length-entries kind_from 7 kinds (length kinds / 7)
 
 -- a sound state keeps the ranges
 pub sound_in_range : (p : Policy) (s : List ℕ) → length p.kinds ≤ 128 → sound p s ≡ true → InRange s

@@ -3,13 +3,17 @@ use Prim.Native.Nat.{ℕ, zero, suc, ◌+◌, ◌/◌, ◌≤◌, ◌<◌}
 use mathlib.Core.Path.{◌≡◌, refl, sym, ap, ◌∙◌, subst, subst⁻¹}
 use mathlib.Core.Bool.{Bool, true, false, true≢false, ◌&&◌}
 use mathlib.Core.Logic.{◌⊎◌, inl, inr, ◌≢◌}
-use mathlib.Core.List.{List, [], ◌∷◌}
+use mathlib.Core.List.{List, map, [], ◌∷◌}
 use native.Mathlib.Omega.{arith}
 use native.Mathlib.Nat.{eq-or-lt_of_le}
 use native.Mathlib.Numerals.{add-one}
 use lib.Dec.{eqb, eqb→eq}
-use lib.ListN.{get_or, set, replicate, length-set, length-replicate, get_or-replicate}
+use lib.ListN.{length, get_or, set, replicate, length-set, length-replicate, get_or-replicate}
 use lib.Seq.{get_or-set_same, get_or-set_other}
+use denote.Ref.{Bor}
+use Rattle.std.specs.declared.option.Option.{Option}
+use Rattle.std.specs.declared.option.Option.TheVariants.{None, Some}
+use Rattle.std.proofs.lemmas.List.{get_or-map, map-set, length-map}
 use borrow.Author.Tests.{eq-eqb}
 use Rattle.model.specs.Lists.{any}
 use Rattle.model.specs.Layout.{certificate_from, certificate_numbers}
@@ -18,7 +22,8 @@ use Rattle.model.specs.declared.Certificate.{Certificate}
 use Rattle.model.proofs.Tests.{of_true, each, eq_or_ne}
 use Rattle.table.specs.Entries.{certificate_at, first_certificates}
 use Rattle.table.proofs.Entries.{any_next}
-use Rattle.sound.specs.Seen.{beginning, bits, turn, Leads, Seen}
+use Rattle.sound.specs.declared.SearchTrees.{SearchTrees}
+use Rattle.sound.specs.Seen.{beginning, bits, turn, Leads, Seen, linked, Finds}
 
 pub seen_none : (s : List ℕ) → Seen s 0 (replicate 1536 256)
 seen_none s =
@@ -27,6 +32,23 @@ seen_none s =
       ahead = λ k b h. subst⁻¹ (λ (x : ℕ). k < x) (get_or-replicate 1536 (turn k b) 256 0 (omega arith)) h;
       found = λ j h. absurd (omega arith);
     }
+
+-- ── links ──
+
+no_links : (n : ℕ) → map linked (replicate n None) ≡ replicate n 256
+no_links zero = refl
+no_links (suc n) = ap (λ (l : List ℕ). 256 ∷ l) (no_links n)
+
+none-linked : (n at k : ℕ) → get_or (replicate n None) at None ≡ Some k → ⊥
+none-linked zero at k e = cc
+none-linked (suc n) zero k e = cc
+none-linked (suc n) (suc at) k e = none-linked n at k e
+
+pub finds_none : (state : Bor (List ℕ)) → length state.now ≡ 1602 → Finds (record { state = state; links = replicate 1536 None }) 0
+finds_none state e = record { size = e; seen = subst⁻¹ (Seen state.now 0) (no_links 1536) (seen_none state.now); earlier = λ at k h. absurd (none-linked 1536 at k h) }
+
+pub link_is : (links : List (Option ℕ)) (at : ℕ) (o : Option ℕ) → at < length (map linked links) → get_or links at None ≡ o → linked o ≡ get_or (map linked links) at 0
+link_is links at o h e = sym (get_or-map linked links at None 0 (omega (arith, length-map links linked)) ∙ ap linked e)
 
 -- ── equal certificates are one ──
 
@@ -129,3 +151,27 @@ module _ (s : List ℕ) (i : ℕ) (links : List ℕ) where
           found' : (j : ℕ) → (j ≡ i) ⊎ (j < i) → (n : ℕ) × Leads (set links at i) n (beginning (certificate_at s j)) (bits (certificate_at s j)) j
           found' j (inl q) = subst⁻¹ (λ (y : ℕ). (n : ℕ) × Leads (set links at i) n (beginning (certificate_at s y)) (bits (certificate_at s y)) y) q own
           found' j (inr h) = let f = x.found j h in (f.0, leads_stay i links (set links at i) stay f.0 (beginning (certificate_at s j)) (bits (certificate_at s j)) j h f.1)
+
+-- ── the trees, with certificate i entered ──
+
+module _ (trees : SearchTrees) (i : ℕ) (f : Finds trees i) (at b : ℕ) (w : OnWay trees.state.now i (map linked trees.links) at b) (e : get_or trees.links at None ≡ None) (few : i < 256) where
+  free : 256 ≡ get_or (map linked trees.links) at 0
+  free = link_is trees.links at None (omega (arith, w.inside, f.seen.size)) e
+
+  pub stands_nowhere : any (same_certificate (certificate_at trees.state.now i)) (first_certificates trees.state.now i) ≡ false
+  stands_nowhere = way_ends trees.state.now i (map linked trees.links) at b 256 w free (omega arith)
+
+  pub finds_more : Finds (record { state = trees.state; links = set trees.links at (Some i) }) (i + 1)
+  finds_more =
+      record {
+        size = f.size;
+        seen = subst⁻¹ (Seen trees.state.now (i + 1)) (map-set linked trees.links at (Some i)) (seen_more trees.state.now i (map linked trees.links) at b 256 w free (omega arith) f.seen);
+        earlier = λ y k h. before y k h (eq_or_ne y at);
+      }
+    where
+      before : (y k : ℕ) → get_or (set trees.links at (Some i)) y None ≡ Some k → (y ≡ at) ⊎ (y ≢ at) → k < i + 1
+      before y k h (inl q) =
+          let own : Some i ≡ Some k = sym (ap (λ (z : ℕ). get_or (set trees.links at (Some i)) z None) q ∙ get_or-set_same trees.links at (Some i) None (omega (arith, w.inside, f.seen.size, length-map trees.links linked))) ∙ h in
+          let same : i ≡ k = cc in
+          omega arith
+      before y k h (inr q) = let l = f.earlier y k (sym (get_or-set_other trees.links at y (Some i) None q) ∙ h) in omega (arith, l)

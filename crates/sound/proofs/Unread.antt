@@ -1,7 +1,7 @@
 -- What soundness of a state does not look at: a certificate names kinds, a row names kinds and a rule, and neither names a right.
 use Prim.Native.Nat.{ℕ}
-use mathlib.Core.Path.{◌≡◌, refl}
-use mathlib.Core.Bool.{not, ◌&&◌}
+use mathlib.Core.Path.{◌≡◌, refl, ap}
+use mathlib.Core.Bool.{Bool, not, ◌&&◌}
 use mathlib.Core.List.{List, [], ◌∷◌}
 use lib.Dec.{eqb, ltb}
 use lib.ListN.{length, get_or}
@@ -13,7 +13,7 @@ use Rattle.model.specs.Conditions.{no_rule, active}
 use Rattle.model.specs.Sound.{same_certificate, certificate_clauses, certificate_sound, row_clauses, row_sound, well_formed, sound_values, sound}
 use Rattle.model.specs.declared.Row.{Row}
 use Rattle.model.specs.declared.Certificate.{Certificate}
-use Rattle.table.specs.Entries.{without_rights}
+use Rattle.table.specs.Entries.{without_rights, kinds_only, world_at}
 use Rattle.table.proofs.Worlds.{supported-same}
 
 module _ (p₁ p₂ : Policy) (kinds : p₁.kinds ≡ p₂.kinds) where
@@ -47,3 +47,8 @@ sound-without-rights t s =
     well_formed s
     && (certificates-same (policy_of (without_rights t.rules t.kinds)) (policy_of t) refl (decode s).certificates i
     && rows_same (policy_of (without_rights t.rules t.kinds)) (policy_of t) refl (decode s) refl (decode s).rows i)
+
+-- the certificates are judged by the kinds alone
+pub values_parts : (rules kinds s : List ℕ) → (all_over_earlier (certificate_sound (kinds_only kinds)) [] (decode s).certificates && all_over_earlier (row_sound (world_at rules kinds s)) [] (decode s).rows) ≡ sound_values (policy_of (without_rights rules kinds)) (decode s)
+unfolding sound_values policy_of
+values_parts rules kinds s = ap (λ (b : Bool). b && all_over_earlier (row_sound (world_at rules kinds s)) [] (decode s).rows) (certificates-same (kinds_only kinds) (policy_of (without_rights rules kinds)) refl (decode s).certificates)

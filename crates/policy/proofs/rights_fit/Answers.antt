@@ -1,18 +1,25 @@
-use Prim.Native.Nat.{◌+◌, ◌-◌, ◌/◌}
-use mathlib.Core.Path.{◌≡◌, sym, ap, ◌∙◌}
-use mathlib.Core.Bool.{◌&&◌}
-use native.Mathlib.Omega.{arith}
-use lib.ListN.{length}
-use borrow.Author.Tests.{eq-eqb, ne_eqb}
-use Rattle.model.specs.Layout.{policy_of}
-use Rattle.policy.proofs.Rights.{first_fit, unfit_stays, fit_sixteen}
+use Rattle.std.proofs.Common.{rules, ◌/◌, length}
+use borrow.Author.Tests.{tests}
+use Rattle.std.specs.Simd.{first_chunks}
+use Rattle.std.proofs.lemmas.Iterator.{YieldsList-from_slice}
+use Rattle.model.proofs.Chains.{all_of_chain}
+use Rattle.policy.specs.Fitting.{first_rights_fit}
+use Rattle.policy.proofs.InTurn.{second_judged, first-failed}
+use Rattle.policy.proofs.Rights.{alone_fits, sixteens_and_rest}
 use Rattle.policy.proofs.rights_fit.Goals as goal
 
-pub returns-then-over_limits-ne0 : goal.returns-then-over_limits-ne0
-unfolding policy_of
-returns-then-over_limits-ne0 c =
-    let e : c.loop-i.i + 16 + (length c.args.rights.now / 2 - (c.loop-i.i + 16)) ≡ length c.args.rights.now / 2 = omega arith in
-    sym (ap (first_fit c.args.rights.now) (sym e) ∙ unfit_stays c.args.rights.now (c.loop-i.i + 16) (length c.args.rights.now / 2 - (c.loop-i.i + 16)) (fit_sixteen c.args.rights.now c.limits-limits.result c.limits-limits.ensures c.loop-i.i ∙ (λ j. c.loop-i.invariant.1 j && (sym c.over_limits.ensures ∙ ne_eqb c.over_limits.result 0 c.if-over_limits-ne0.true) j)))
+pub returns-then-all : goal.returns-then-all
+returns-then-all c =
+    let rights = c.args.rights.now in
+    let rest = c.as_chunks.result.1.now in
+    second_judged _ _ (sixteens_and_rest rights rest c.as_chunks.ensures.back c.as_chunks.ensures.back_len)
+    (all_of_chain (first_rights_fit 16) _ _ _ c.all.ensures.ran (YieldsList-from_slice (first_chunks 32 (length rights / 32) rights) cc) (λ x b q k. search (rules, tests)))
+    c.if-all.true
+    (all_of_chain alone_fits _ _ _ c.all-then-all.ensures.ran (YieldsList-from_slice (first_chunks 2 (length rest / 2) rest) cc) (λ x b q k. search (rules, tests)))
 
-pub loop-i-preserved : goal.loop-i-preserved
-loop-i-preserved c = (omega arith, fit_sixteen c.args.rights.now c.limits-limits.result c.limits-limits.ensures c.loop-i.i ∙ (λ j. c.loop-i.invariant.1 j && (sym c.over_limits.ensures ∙ eq-eqb c.over_limits.result 0 c.if-over_limits-ne0.false) j))
+pub returns-else-all : goal.returns-else-all
+returns-else-all c =
+    let rights = c.args.rights.now in
+    first-failed _ _ (sixteens_and_rest rights c.as_chunks.result.1.now c.as_chunks.ensures.back c.as_chunks.ensures.back_len)
+    (all_of_chain (first_rights_fit 16) _ _ _ c.all.ensures.ran (YieldsList-from_slice (first_chunks 32 (length rights / 32) rights) cc) (λ x b q k. search (rules, tests)))
+    c.if-all.false

@@ -1,20 +1,13 @@
-use Prim.Native.Nat.{ℕ}
-use mathlib.Core.Path.{◌≡◌, sym, ap, ◌∙◌}
-use native.Mathlib.Omega.{arith}
-use lib.ListN.{take, get_or}
-use borrow.Author.Tests.{le-leb, lt-leb}
-use Rattle.model.specs.Lists.{all, is_bit}
-use Rattle.table.proofs.Entries.{all-next, all_miss}
-use borrow.Author.Rules.{rules}
+use Rattle.std.proofs.Common.{rules, take, sym, arith}
+use borrow.Author.Tests.{tests}
+use lib.Seq.{length-take-le}
+use Rattle.std.proofs.lemmas.Iterator.{YieldsList-from_slice}
+use Rattle.model.specs.Lists.{is_bit}
+use Rattle.model.proofs.Chains.{all_of_chain}
 use Rattle.sound.proofs.facts_are_bits.Goals as goal
 
-pub returns-then-state-j-gt1 : goal.returns-then-state-j-gt1
-returns-then-state-j-gt1 c = sym (all_miss is_bit c.args.state.now 0 64 c.loop-j.j c.loop-j-test.true (omega arith) (lt-leb (get_or c.args.state.now c.loop-j.j 0) 1 (omega arith)))
-
-pub loop-j-preserved : goal.loop-j-preserved
-loop-j-preserved c = (search rules, all-next is_bit c.args.state.now 0 c.loop-j.j (omega arith) c.loop-j.invariant.1 (le-leb (get_or c.args.state.now c.loop-j.j 0) 1 (omega arith)))
+pub slice_bounds-iter-end : goal.slice_bounds-iter-end
+slice_bounds-iter-end c = sym (length-take-le 64 c.args.state.now (omega arith))
 
 pub returns : goal.returns
-returns c =
-    let e : c.loop-j.j ≡ 64 = omega arith in
-    sym c.loop-j.invariant.1 ∙ ap (λ (m : ℕ). all is_bit (take m c.args.state.now)) e
+returns c = all_of_chain is_bit _ _ _ c.all.ensures.ran (YieldsList-from_slice (take 64 c.args.state.now) cc) (λ x b q k. search (rules, tests))

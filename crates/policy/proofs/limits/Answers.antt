@@ -1,5 +1,0 @@
-use Rattle.policy.proofs.Rights.{limits_are}
-use Rattle.policy.proofs.limits.Goals as goal
-
-pub returns : goal.returns
-returns c = limits_are
