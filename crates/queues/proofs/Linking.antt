@@ -1,5 +1,5 @@
 -- Queues from the last entry to the first: none is queued yet, one entry more; and what a walk along a queue passes over.
-use Prim.Native.Nat.{ℕ, ◌+◌, ◌≤◌, ◌<◌}
+use Prim.Native.Nat.{ℕ, ◌+◌, ◌-◌, ◌≤◌, ◌<◌}
 use mathlib.Core.Path.{◌≡◌, refl, sym, ap, ◌∙◌, subst, subst⁻¹}
 use mathlib.Core.Bool.{Bool, true, false}
 use mathlib.Core.Logic.{◌≢◌, ◌⊎◌, inl, inr}
@@ -11,21 +11,25 @@ use lib.ListN.{get_or, set, replicate, length-set, length-replicate, get_or-repl
 use lib.Seq.{get_or-set_same, get_or-set_other}
 use borrow.Author.Tests.{eqb-true, eqb-false}
 use Rattle.std.specs.Prelude.{Option, Some, None}
+use Rattle.std.proofs.Props.{props}
 use Rattle.queues.specs.Queued.{most_entries, user_at, queues, queue, FirstAt, Link, Begins, GoesOn, Queued, first_entry, entry_behind}
 use Rattle.queues.specs.declared.Queues.{Queues}
+
+-- how far a walk has come among n entries: to an entry, or past them all
+abbrev pub reach : ℕ → Option ℕ → ℕ
+reach n None = n
+reach n (Some k) = k
 
 module _ (s : List ℕ) (place n : ℕ) where
   -- ── along a queue ──
 
-  -- where a walk is at an entry, or past them all
-  abbrev pub reach : Option ℕ → ℕ
-  reach None = n
-  reach (Some k) = k
-
   module _ (b a : ℕ) where
-    pub passed : (k : Option ℕ) → Link s place n b a k → (h : ℕ) → a ≤ h → h < reach k → h < n → queue (user_at s place h) ≢ b
+    passed : (k : Option ℕ) → Link s place n b a k → (h : ℕ) → a ≤ h → h < reach n k → h < n → queue (user_at s place h) ≢ b
     passed None l h after before inside e = l h after inside e
     passed (Some k) l h after before inside e = let b : h < k = before in omega (arith, l.first h after inside e)
+
+    pub passed_user : (k : Option ℕ) → Link s place n b a k → (u : ℕ) → queue u ≡ b → (h : ℕ) → a ≤ h → h < reach n k → h < n → user_at s place h ≢ u
+    passed_user k l u own h after before inside e = passed k l h after before inside (ap queue e ∙ own)
 
   -- ── from the last entry to the first ──
 
@@ -101,6 +105,11 @@ module _ (s : List ℕ) (place n : ℕ) where
 
 -- ── what a walk asks ──
 
+-- there is one answer only
+pub Link-prop : (s : List ℕ) (place n b i : ℕ) (k : Option ℕ) → IsProp (Link s place n b i k)
+Link-prop s place n b i None = hlevel props
+Link-prop s place n b i (Some k) = hlevel props
+
 module _ {s : List ℕ} {place n : ℕ} {q : Queues} (queued : Queued s place n q) where
   pub link_first : (u : ℕ) {k : Option ℕ} → k ≡ first_entry q u → Link s place n (queue u) 0 k
   link_first u e = subst⁻¹ (Link s place n (queue u) 0) e (queued.begun.begins (queue u) (omega arith))
@@ -108,3 +117,8 @@ module _ {s : List ℕ} {place n : ℕ} {q : Queues} (queued : Queued s place n 
   pub link_behind : {b a k : ℕ} {next : Option ℕ} → FirstAt s place n b a k → next ≡ entry_behind q k → Link s place n b (k + 1) next
   link_behind {b} {a} {k} l e =
       subst⁻¹ (Link s place n b (k + 1)) e (subst (λ (c : ℕ). Link s place n c (k + 1) (get_or q.next k None)) l.there (queued.behind.goes_on k (omega arith) l.within))
+
+-- each step makes shorter what is left of a walk
+pub link_shorter : (s : List ℕ) (place n b k : ℕ) (next : Option ℕ) → k < n → Link s place n b (k + 1) next → n - reach n next < n - k
+link_shorter s place n b k None l x = omega arith
+link_shorter s place n b k (Some j) l x = omega (arith, x.ahead)

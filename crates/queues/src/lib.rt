@@ -7,7 +7,7 @@ ghost use Rattle.std.specs.Prelude.{◌≡◌, ◌+◌, ◌*◌, ◌≤◌, ◌<
 ghost use Rattle.queues.specs.Queued.{entry_width, most_entries, queues, queue, Queued, first_entry, entry_behind};
 
 // How many queues there are.
-pub const QUEUES: usize = 512;
+const QUEUES: usize = 512;
 
 // How many entries a table has at most.
 const MOST_ENTRIES: usize = 256;
