@@ -12,7 +12,7 @@ ghost use Rattle.direct.specs.Having.{RightsFit, met, Said, holds_right, Having}
 use model::{RIGHT_WIDTH, ROLES, ROW_COUNT_AT, Row};
 
 // Of each role, whether it has a privilege itself.
-pub type Having = [bool; ROLES as usize];
+pub type Holders = [bool; ROLES as usize];
 
 // The privilege is among the numbers. All are looked at, so that the machine may take several in one step; a role of that number is met too,
 // and then the rights are read in vain.
@@ -25,7 +25,7 @@ fn is_met(numbers: &[u16], privilege: u16) -> bool
 }
 
 // The roles that have the privilege by the rights of some places are noted beside those that have it by the rights before.
-fn note(rights: &[u16], privilege: u16, from: usize, to: usize, having: &mut Having)
+fn note(rights: &[u16], privilege: u16, from: usize, to: usize, having: &mut Holders)
     requires { RightsFit rights.now × (from ≤ to) × (to ≤ length rights.now / right_width) × Said rights.now privilege from having.old }
     ensures { Said rights.now privilege to having.new }
 {
@@ -38,7 +38,7 @@ fn note(rights: &[u16], privilege: u16, from: usize, to: usize, having: &mut Hav
 }
 
 // The same for sixteen rights: they are read one by one only where the privilege is met among their numbers.
-fn note_sixteen(rights: &[u16], privilege: u16, from: usize, having: &mut Having)
+fn note_sixteen(rights: &[u16], privilege: u16, from: usize, having: &mut Holders)
     requires { RightsFit rights.now × (from + 16 ≤ length rights.now / right_width) × Said rights.now privilege from having.old }
     ensures { Said rights.now privilege (from + 16) having.new }
 {
@@ -49,7 +49,7 @@ fn note_sixteen(rights: &[u16], privilege: u16, from: usize, having: &mut Having
 }
 
 // Which roles have the privilege themselves: one pass over the rights serves all the rows that are asked afterwards.
-pub fn roles_having(rights: &[u16], privilege: u16) -> Having
+pub fn roles_having(rights: &[u16], privilege: u16) -> Holders
     requires { RightsFit rights.now }
     ensures { Having rights.now privilege result }
 {
@@ -63,14 +63,14 @@ pub fn roles_having(rights: &[u16], privilege: u16) -> Having
 }
 
 // The role has the privilege itself.
-pub fn has_right(having: &Having, role: u16) -> bool
+pub fn has_right(having: &Holders, role: u16) -> bool
     ensures { result ≡ holds_right having.now role }
 {
     role < ROLES && having[table::wide(role)]
 }
 
 // The row is the user's, and its role has the privilege.
-fn row_carries(having: &Having, row: Row, user: u16) -> bool
+fn row_carries(having: &Holders, row: Row, user: u16) -> bool
     ensures { result ≡ (eqb row.user user && holds_right having.now row.role) }
 {
     row.user == user && has_right(having, row.role)

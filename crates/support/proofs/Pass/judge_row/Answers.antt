@@ -1,6 +1,5 @@
-use native.Mathlib.Omega.{arith}
 use Rattle.support.specs.Verdicts.{world_under}
-use Rattle.support.proofs.Entering.{row-falls, row-twice, row_stays, role_in_range}
+use Rattle.support.proofs.Entering.{row-falls, row-twice, row_stays, role_has_mark}
 use Rattle.support.proofs.Pass.judge_row.Goals as goal
 
 pub returns-then-not-row_supported : goal.returns-then-not-row_supported
@@ -10,7 +9,7 @@ returns-then-not-row_supported c = let pass = c.args.self.now in
 
 pub bounds-own-role : goal.bounds-own-role
 bounds-own-role c = let pass = c.args.self.now in
-    omega (arith, c.requires.1.size, role_in_range (world_under pass.policy pass.state.now) pass.state.now c.args.k c.requires.1 c.row_at-row.ensures c.row_supported.ensures pass.in_range c.requires.0 c.wide-role.ensures)
+    role_has_mark (world_under pass.policy pass.state.now) pass.state.now c.args.k c.requires.1 c.row_at-row.ensures c.row_supported.ensures pass.in_range c.requires.0 c.wide-role.ensures
 
 pub returns-then-own-role : goal.returns-then-own-role
 returns-then-own-role c = let pass = c.args.self.now in
@@ -19,7 +18,7 @@ returns-then-own-role c = let pass = c.args.self.now in
 
 pub bounds-own-role-2 : goal.bounds-own-role-2
 bounds-own-role-2 c = let pass = c.args.self.now in
-    omega (arith, c.requires.1.size, role_in_range (world_under pass.policy pass.state.now) pass.state.now c.args.k c.requires.1 c.row_at-row.ensures c.row_supported.ensures pass.in_range c.requires.0 c.wide-role.ensures)
+    role_has_mark (world_under pass.policy pass.state.now) pass.state.now c.args.k c.requires.1 c.row_at-row.ensures c.row_supported.ensures pass.in_range c.requires.0 c.wide-role.ensures
 
 pub returns : goal.returns
 returns c = let pass = c.args.self.now in
