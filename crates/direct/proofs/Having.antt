@@ -1,18 +1,18 @@
 -- Which roles have the privilege themselves: what code writes right by right is what the model asks of a role.
-use Prim.Native.Nat.{ℕ, zero, suc, ◌+◌, ◌*◌, ◌/◌, ◌≤◌, ◌<◌}
+use Prim.Native.Nat.{ℕ, zero, suc, ◌+◌, ◌*◌, ◌-◌, ◌/◌, ◌≤◌, ◌<◌}
 use mathlib.Core.Path.{◌≡◌, refl, sym, ap, ◌∙◌, subst, subst⁻¹}
-use mathlib.Core.Bool.{Bool, true, false, ◌&&◌, ◌||◌, and-false, or-true, or-false, true≢false}
+use mathlib.Core.Bool.{Bool, true, false, ◌&&◌, ◌||◌, and-false, or-true, or-false}
 use mathlib.Core.Logic.{◌⊎◌, inl, inr}
 use mathlib.Core.List.{List, [], ◌∷◌}
 use native.Mathlib.Omega.{arith}
-use native.Mathlib.Numerals.{add-one}
 use lib.Dec.{eqb, ltb, ltb→lt}
 use borrow.Author.Tests.{eq-eqb, ne_eqb, eqb-true, eqb-false, lt-ltb, le-ltb}
-use lib.ListN.{length, get_or, set, replicate, get_or-eq_default}
-use lib.Seq.{get_or-set_same, get_or-set_other}
+use lib.ListN.{length, get_or, set, replicate, take, drop, get_or-eq_default, length-take, length-drop}
+use lib.Seq.{get_or-set_same, get_or-set_other, get_or-take, get_or-drop}
 use Rattle.model.specs.Lists.{any}
 use Rattle.model.specs.Layout.{policy_of, right_from}
 use Rattle.model.specs.Effective.{is_right, direct}
+use Rattle.model.specs.Calls.{allowed}
 use Rattle.model.specs.Sound.{policy_clauses, right_clauses, right_fits}
 use Rattle.model.specs.Words.{Sound}
 use Rattle.model.specs.declared.Right.{Right}
@@ -20,6 +20,7 @@ use Rattle.model.specs.declared.Row.{Row}
 use Rattle.model.proofs.Tests.{lt_or_ge, each, all_of, any_append, repeated}
 use Rattle.table.specs.Entries.{entry, entries, right_at, lent}
 use Rattle.table.proofs.Entries.{entries_more, entry-member, right_places}
+use Rattle.direct.proofs.Joined.{any_false}
 use Rattle.direct.specs.Having.{RightsFit, met, Said, holds_right, Having}
 
 module _ (rights : List ℕ) (x : ℕ) where
@@ -62,35 +63,29 @@ module _ (rights : List ℕ) (x : ℕ) where
 
   -- ── several rights at a time ──
 
-  met_next : (from j : ℕ) → met rights x from (j + 1) ≡ (met rights x from j || eqb (get_or rights (from + j) 0) x)
-  unfolding met
-  met_next from j = ap (met rights x from) (add-one j)
-
-  pub met-here : (from j : ℕ) → get_or rights (from + j) 0 ≡ x → true ≡ met rights x from (j + 1)
-  met-here from j e = sym (met_next from j ∙ ap (λ (b : Bool). met rights x from j || b) (eq-eqb (get_or rights (from + j) 0) x e) ∙ or-true (met rights x from j))
-
-  pub met-before : (from j : ℕ) (b : Bool) → (get_or rights (from + j) 0 ≡ x → ⊥) → b ≡ met rights x from j → b ≡ met rights x from (j + 1)
-  met-before from j b n e = e ∙ sym (met_next from j ∙ ap (λ (a : Bool). met rights x from j || a) (ne_eqb (get_or rights (from + j) 0) x n) ∙ or-false (met rights x from j))
-
-  -- where the privilege is not met, no right is one to it
-  said_so_far : (i m : ℕ) (having : List Bool) → met rights x (i * 2) (m * 2) ≡ false → Said rights x i having → Said rights x (i + m) having
-  unfolding met
-  said_so_far i zero having n h = let at : i + 0 ≡ i = omega arith in subst⁻¹ (λ (k : ℕ). Said rights x k having) at h
-  said_so_far i (suc m) having n h =
-      let two : suc m * 2 ≡ suc (suc (m * 2)) = omega arith in
-      let parts = neither (met rights x (i * 2) (m * 2)) (eqb (get_or rights (i * 2 + m * 2) 0) x) (eqb (get_or rights (i * 2 + suc (m * 2)) 0) x) (ap (met rights x (i * 2)) (sym two) ∙ n) in
-      let place : i * 2 + suc (m * 2) ≡ (i + m) * 2 + 1 = omega arith in
-      let other : (right_at rights (i + m)).privilege ≡ x → ⊥ = λ e. eqb-false (get_or rights (i * 2 + suc (m * 2)) 0) x parts.1 (ap (λ (k : ℕ). get_or rights k 0) place ∙ ap (λ (r : Right). r.privilege) (sym (right_places rights (i + m))) ∙ e) in
+  -- rights of which none is to this privilege
+  said_so_far : (i m : ℕ) (having : List Bool) → ((k : ℕ) → k < m → (right_at rights (i + k)).privilege ≡ x → ⊥) → Said rights x i having → Said rights x (i + m) having
+  said_so_far i zero having other h = let at : i + 0 ≡ i = omega arith in subst⁻¹ (λ (k : ℕ). Said rights x k having) at h
+  said_so_far i (suc m) having other h =
       let at : i + suc m ≡ i + m + 1 = omega arith in
-      subst⁻¹ (λ (k : ℕ). Said rights x k having) at (said_other (i + m) (right_at rights (i + m)) having refl other (said_so_far i m having parts.0 h))
-    where
-      neither : (a b c : Bool) → ((a || b) || c) ≡ false → (a ≡ false) × (c ≡ false)
-      neither true b c e = absurd (true≢false e)
-      neither false true c e = absurd (true≢false e)
-      neither false false c e = (refl, e)
+      subst⁻¹ (λ (k : ℕ). Said rights x k having) at
+      (said_other (i + m) (right_at rights (i + m)) having refl (other m (omega arith)) (said_so_far i m having (λ k l. other k (omega arith)) h))
 
-  pub said_sixteen : (i : ℕ) (having : List Bool) → met rights x (i * 2) 32 ≡ false → Said rights x i having → Said rights x (i + 16) having
-  said_sixteen i having n h = said_so_far i 16 having n h
+  -- where the privilege is not met among the numbers of sixteen rights, none of them is to it
+  pub said_sixteen : (i : ℕ) (having : List Bool) → i + 16 ≤ length rights / 2 → met (take ((i + 16) * 2 - i * 2) (drop (i * 2) rights)) x ≡ false → Said rights x i having → Said rights x (i + 16) having
+  said_sixteen i having inside n h = said_so_far i 16 having other h
+    where
+      other : (k : ℕ) → k < 16 → (right_at rights (i + k)).privilege ≡ x → ⊥
+      other k l e =
+          let at : i * 2 + (k * 2 + 1) ≡ (i + k) * 2 + 1 = omega arith in
+          let numbers = take ((i + 16) * 2 - i * 2) (drop (i * 2) rights) in
+          any_false (λ (n : ℕ). eqb n x) numbers (k * 2 + 1) 0 (simp (length-take, length-drop) (omega arith)) n
+          (eq-eqb (get_or numbers (k * 2 + 1) 0) x
+          (get_or-take ((i + 16) * 2 - i * 2) (drop (i * 2) rights) (k * 2 + 1) 0 (omega arith)
+          ∙ get_or-drop (i * 2) rights (k * 2 + 1) 0
+          ∙ ap (λ (k : ℕ). get_or rights k 0) at
+          ∙ ap (λ (r : Right). r.privilege) (sym (right_places rights (i + k)))
+          ∙ e))
 
   pub said_all : (i : ℕ) (having : List Bool) → i ≡ length rights / 2 → length having ≡ 256 → Said rights x i having → Having rights x having
   unfolding Having holds_right direct policy_of
@@ -101,9 +96,13 @@ module _ (rights : List ℕ) (x : ℕ) where
       go (inr l) = ap (λ (b : Bool). b && get_or having q false) (le-ltb q 256 l) ∙ sym (get_or-eq_default having false {n = q} (omega arith))
 
   -- the row is the user's, and its role has the privilege: as code asks it
-  pub row-having : (having : List Bool) (u : ℕ) (row : Row) → Having rights x having → (eqb row.user u && direct (policy_of (lent [] [] rights)) row.role x) ≡ (eqb row.user u && holds_right having row.role)
+  row-having : (having : List Bool) (u : ℕ) (row : Row) → Having rights x having → (eqb row.user u && direct (policy_of (lent [] [] rights)) row.role x) ≡ (eqb row.user u && holds_right having row.role)
   unfolding Having
   row-having having u row h = ap (λ (b : Bool). eqb row.user u && b) (sym (h row.role))
+
+  pub rows_having : (having : List Bool) (u : ℕ) (rows : List Row) → Having rights x having → any (λ (r : Row). eqb r.user u && holds_right having r.role) rows ≡ allowed (policy_of (lent [] [] rights)) rows u x
+  unfolding allowed
+  rows_having having u rows h = λ j. any (λ (r : Row). sym (row-having having u r h) j) rows
 
 -- ── sound rights ──
 

@@ -1,5 +1,5 @@
 -- The roles that have a privilege themselves, as a list with an entry for each role.
-use Rattle.std.specs.Prelude.{ℕ, zero, suc, ◌+◌, ◌≡◌, Bool, false, ◌&&◌, ◌||◌, List, [], T, eqb, ltb, get_or}
+use Rattle.std.specs.Prelude.{ℕ, ◌≡◌, Bool, false, ◌&&◌, List, [], T, eqb, ltb, get_or}
 use Rattle.model.specs.Lists.{all, any}
 use Rattle.model.specs.Limits.{roles}
 use Rattle.model.specs.Layout.{policy_of, right_from}
@@ -11,10 +11,9 @@ use Rattle.table.specs.Entries.{entries, lent}
 abbrev pub RightsFit : List ℕ → Type 0
 RightsFit rights = T (all right_fits (policy_of (lent [] [] rights)).rights)
 
--- the number x is one of so many from a place on
-unfoldable pub met : List ℕ → ℕ → ℕ → ℕ → Bool
-met rights x from zero = false
-met rights x from (suc j) = met rights x from j || eqb (get_or rights (from + j) 0) x
+-- the number x is one of these
+abbrev pub met : List ℕ → ℕ → Bool
+met numbers x = any (λ (n : ℕ). eqb n x) numbers
 
 -- entry q says whether one of the first i rights is role q's to the privilege x
 abbrev pub Said : List ℕ → ℕ → ℕ → List Bool → Type 0

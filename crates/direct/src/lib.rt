@@ -11,32 +11,26 @@ ghost use Rattle.direct.specs.Having.{RightsFit, met, Said, holds_right, Having}
 
 use model::{RIGHT_WIDTH, ROLES, ROW_COUNT_AT, Row};
 
-// The privilege is among the 32 numbers from a place on. All are looked at, so that the machine may take several in one step; a role of
-// that number is met too, and then the rights are read in vain.
-fn is_met(rights: &[u16], from: usize, privilege: u16) -> bool
-    requires { from + 32 ≤ length rights.now }
-    ensures { result ≡ met rights.now privilege from 32 }
+// Of each role, whether it has a privilege itself.
+pub type Holders = [bool; ROLES as usize];
+
+// The privilege is among the numbers. All are looked at, so that the machine may take several in one step; a role of that number is met too,
+// and then the rights are read in vain.
+fn is_met(numbers: &[u16], privilege: u16) -> bool
+    ensures { result ≡ met numbers.now privilege }
 {
-    let mut found: u16 = 0;
-    let mut j: usize = 0;
-    while j < 32 {
-        if rights[from + j] == privilege {
-            found = 1;
-        }
-        j += 1;
-    }
-    found == 1
+    numbers
+        .iter()
+        .fold(false, |met, number| met | (*number == privilege))
 }
 
 // The roles that have the privilege by the rights of some places are noted beside those that have it by the rights before.
-fn note(rights: &[u16], privilege: u16, from: usize, to: usize, having: &mut [bool])
-    requires { RightsFit rights.now × (from ≤ to) × (to ≤ length rights.now / right_width) × (length having.old ≡ roles) × Said rights.now privilege from having.old }
+fn note(rights: &[u16], privilege: u16, from: usize, to: usize, having: &mut Holders)
+    requires { RightsFit rights.now × (from ≤ to) × (to ≤ length rights.now / right_width) × Said rights.now privilege from having.old }
     ensures { Said rights.now privilege to having.new }
 {
-    let mut i = from;
-    while i < to {
+    for i in from..to {
         let right = table::right_at(rights, i);
-        i += 1;
         if right.privilege == privilege {
             having[table::wide(right.role)] = true;
         }
@@ -44,50 +38,42 @@ fn note(rights: &[u16], privilege: u16, from: usize, to: usize, having: &mut [bo
 }
 
 // The same for sixteen rights: they are read one by one only where the privilege is met among their numbers.
-fn note_sixteen(rights: &[u16], privilege: u16, from: usize, having: &mut [bool])
-    requires { RightsFit rights.now × (from + 16 ≤ length rights.now / right_width) × (length having.old ≡ roles) × Said rights.now privilege from having.old }
+fn note_sixteen(rights: &[u16], privilege: u16, from: usize, having: &mut Holders)
+    requires { RightsFit rights.now × (from + 16 ≤ length rights.now / right_width) × Said rights.now privilege from having.old }
     ensures { Said rights.now privilege (from + 16) having.new }
 {
-    if !is_met(rights, from * RIGHT_WIDTH, privilege) {
-        return;
+    let to = from + 16;
+    if is_met(&rights[from * RIGHT_WIDTH..to * RIGHT_WIDTH], privilege) {
+        note(rights, privilege, from, to, having);
     }
-    note(rights, privilege, from, from + 16, having);
 }
 
 // Which roles have the privilege themselves: one pass over the rights serves all the rows that are asked afterwards.
-pub fn roles_having(rights: &[u16], privilege: u16) -> [bool; ROLES as usize]
+pub fn roles_having(rights: &[u16], privilege: u16) -> Holders
     requires { RightsFit rights.now }
     ensures { Having rights.now privilege result }
 {
     let mut having = [false; ROLES as usize];
     let n = rights.len() / RIGHT_WIDTH;
-    let mut i: usize = 0;
-    while i + 16 <= n {
-        note_sixteen(rights, privilege, i, &mut having);
-        i += 16;
+    for i in 0..n / 16 {
+        note_sixteen(rights, privilege, i * 16, &mut having);
     }
-    note(rights, privilege, i, n, &mut having);
+    note(rights, privilege, n / 16 * 16, n, &mut having);
     having
 }
 
 // The role has the privilege itself.
-pub fn has_right(having: &[bool; ROLES as usize], role: u16) -> bool
+pub fn has_right(having: &Holders, role: u16) -> bool
     ensures { result ≡ holds_right having.now role }
 {
-    if role < ROLES {
-        return having[table::wide(role)];
-    }
-    false
+    role < ROLES && having[table::wide(role)]
 }
 
 // The row is the user's, and its role has the privilege.
-fn row_carries(having: &[bool; ROLES as usize], row: Row, user: u16) -> bool
+fn row_carries(having: &Holders, row: Row, user: u16) -> bool
     ensures { result ≡ (eqb row.user user && holds_right having.now row.role) }
 {
-    if row.user == user {
-        return has_right(having, row.role);
-    }
-    false
+    row.user == user && has_right(having, row.role)
 }
 
 // Some active role of the user has the privilege.
@@ -100,12 +86,5 @@ pub fn may_invoke(rights: &[u16], state: &[u16], user: u16, privilege: u16) -> b
         return false;
     }
     let having = roles_having(rights, privilege);
-    let mut i: usize = 0;
-    while i < n {
-        if row_carries(&having, table::row_at(state, i), user) {
-            return true;
-        }
-        i += 1;
-    }
-    false
+    (0..n).any(|i| row_carries(&having, table::row_at(state, i), user))
 }

@@ -1,12 +1,13 @@
 -- The pass over the rows: what stands in the state after i rows, of which w were kept. Which rows stay is said by their places.
 use Prim.Native.Nat.{ℕ, zero, suc, ◌+◌, ◌*◌, ◌-◌, ◌≤◌, ◌<◌}
-use mathlib.Core.Path.{◌≡◌, refl, sym, ap, ◌∙◌, subst⁻¹}
+use mathlib.Core.Path.{◌≡◌, refl, sym, ap, ◌∙◌, subst, subst⁻¹}
 use mathlib.Core.Bool.{Bool, true, false, not, cond}
 use mathlib.Core.Logic.{◌≢◌, ◌⊎◌, inl, inr}
 use mathlib.Core.List.{List, [], ◌∷◌, ◌++◌, append-nil}
 use native.Mathlib.Omega.{arith}
 use native.Mathlib.Numerals.{add-one}
 use lib.Dec.{eqb}
+use borrow.Author.Tests.{eq-eqb, ne_eqb}
 use lib.ListN.{length, get_or, set, length-set}
 use lib.Seq.{get_or-set_same, get_or-set_other}
 use Rattle.model.specs.Lists.{without}
@@ -17,12 +18,15 @@ use Rattle.model.specs.Left.{left}
 use Rattle.model.specs.declared.Row.{Row}
 use Rattle.model.proofs.Parts.{without-append}
 use Rattle.model.proofs.Sweep.{left_last}
-use Rattle.model.proofs.Tests.{lt_or_ge}
+use Rattle.model.proofs.Tests.{lt_or_ge, eq_or_ne}
 use Rattle.table.specs.Entries.{row_at, first_rows, Sized}
 use Rattle.table.proofs.Entries.{rows_more, length-entries}
+use Rattle.std.specs.Prelude.{Option, Some}
 use Rattle.support.specs.Verdicts.{kept, Judged}
+use Rattle.support.specs.declared.Verdict.{Verdict}
+use Rattle.support.specs.declared.Verdict.TheVariants.{Stays, Falls, Twice}
 use Rattle.table.specs.Writes.{Moved, Zeroed}
-use Rattle.fall.specs.Pass.{row_place, Settled, is_kept, staying, Swept, Closed, RowsLeft}
+use Rattle.fall.specs.Pass.{row_place, not_falling, is_kept, staying, Swept, Closed, RowsLeft, RowsKept}
 use Rattle.table.proofs.Form.{Formed, as_encoded, facts-kept, certificates-kept, row_same, rows-first-same}
 
 pub swept_none : (stays : ℕ → Bool) (s : List ℕ) → Swept stays s s 0 0
@@ -47,38 +51,82 @@ pub swept_row : (stays : ℕ → Bool) (s₀ s : List ℕ) (i w : ℕ) → i < 2
 swept_row stays s₀ s i w h p = row_same s₀ s i i h h (λ k l. p.above (i * 3 + 65 + k) (omega arith))
 
 -- one row more stays or falls
-pub swept_more : (stays : ℕ → Bool) (s₀ s s' : List ℕ) (i w kept : ℕ) → i < 256 → Swept stays s₀ s i w → Settled (stays i) s s' w i kept → Swept stays s₀ s' (i + 1) kept
+module _ {stays : ℕ → Bool} {s₀ s : List ℕ} {i w : ℕ} (small : i < 256) (p : Swept stays s₀ s i w) where
+  more : staying stays s₀ (i + 1) ≡ cond (stays i) (first_rows s w ++ (row_at s i ∷ [])) (first_rows s w)
+  unfolding staying
+  more = ap (staying stays s₀) (add-one i) ∙ (λ k. cond (stays i) (sym p.rows k ++ (sym (swept_row stays s₀ s i w small p) k ∷ [])) (sym p.rows k))
+
+  swept_stays : {s' : List ℕ} → stays i ≡ true → Moved s s' (row_place i) (row_place w) 3 → Swept stays s₀ s' (i + 1) (w + 1)
+  swept_stays {s'} e m =
+      record {
+        within = omega (arith, p.within);
+        size = m.size ∙ p.size;
+        below = λ k l. m.below k (omega arith) ∙ p.below k l;
+        above = λ k l. m.above k (omega (arith, p.within)) ∙ p.above k (omega arith);
+        rows = kept-rows s s' w i p.within small m ∙ sym (more ∙ ap (λ (b : Bool). cond b (first_rows s w ++ (row_at s i ∷ [])) (first_rows s w)) e);
+      }
+
+  swept_falls : stays i ≡ false → Swept stays s₀ s (i + 1) w
+  swept_falls e =
+      record {
+        within = omega (arith, p.within);
+        size = p.size;
+        below = p.below;
+        above = λ k l. p.above k (omega arith);
+        rows = sym (more ∙ ap (λ (b : Bool). cond b (first_rows s w ++ (row_at s i ∷ [])) (first_rows s w)) e);
+      }
+
+-- ── what a test says of the rows ──
+
+staying_same : (a b : ℕ → Bool) (s : List ℕ) (n : ℕ) → ((i : ℕ) → i < n → a i ≡ b i) → staying a s n ≡ staying b s n
 unfolding staying
-swept_more stays s₀ s s' i w kept h p j = go (stays i) refl
-  where
-    more : staying stays s₀ (i + 1) ≡ cond (stays i) (first_rows s w ++ (row_at s i ∷ [])) (first_rows s w)
-    more = ap (staying stays s₀) (add-one i) ∙ (λ k. cond (stays i) (sym p.rows k ++ (sym (swept_row stays s₀ s i w h p) k ∷ [])) (sym p.rows k))
+staying_same a b s zero e = refl
+staying_same a b s (suc n) e = let before = staying_same a b s n (λ i l. e i (omega arith)) in λ k. cond (e n (omega arith) k) (before k ++ (row_at s n ∷ [])) (before k)
 
-    stood : stays i ≡ true → Moved s s' (row_place i) (row_place w) 3 × (kept ≡ w + 1) → Swept stays s₀ s' (i + 1) kept
-    stood e m =
-        record {
-          within = omega (arith, m.1, p.within);
-          size = m.0.size ∙ p.size;
-          below = λ k l. m.0.below k (omega arith) ∙ p.below k l;
-          above = λ k l. m.0.above k (omega (arith, p.within)) ∙ p.above k (omega arith);
-          rows = ap (first_rows s') m.1 ∙ kept-rows s s' w i p.within h m.0 ∙ sym (more ∙ ap (λ (b : Bool). cond b (first_rows s w ++ (row_at s i ∷ [])) (first_rows s w)) e);
-        }
+-- the test has said of the first i rows which stay
+pub record Passing (said : ℕ → Row → Bool → Type 0) (s₀ s : List ℕ) (i w : ℕ) : Type 0 where
+  pub says : ℕ → Bool
+  pub of_each : (k : ℕ) → k < i → said k (row_at s₀ k) (says k)
+  pub swept : Swept says s₀ s i w
 
-    fell : stays i ≡ false → Swept stays s₀ s (i + 1) w
-    fell e =
-        record {
-          within = omega (arith, p.within);
-          size = p.size;
-          below = p.below;
-          above = λ k l. p.above k (omega arith);
-          rows = sym (more ∙ ap (λ (b : Bool). cond b (first_rows s w ++ (row_at s i ∷ [])) (first_rows s w)) e);
-        }
+pub passing_none : (said : ℕ → Row → Bool → Type 0) (s : List ℕ) → Passing said s s 0 0
+passing_none said s = record { says = λ k. false; of_each = λ k l. absurd (omega arith); swept = swept_none (λ k. false) s }
 
-    go : (b : Bool) → stays i ≡ b → Swept stays s₀ s' (i + 1) kept
-    go true e = stood e (j.stood e)
-    go false e =
-        let f = j.fell e in
-        subst⁻¹ (λ (l : List ℕ). Swept stays s₀ l (i + 1) kept) f.0 (subst⁻¹ (λ (n : ℕ). Swept stays s₀ s (i + 1) n) f.1 (fell e))
+module _ {said : ℕ → Row → Bool → Type 0} {s₀ s : List ℕ} {i w : ℕ} (small : i < 256) (p : Passing said s₀ s i w) {r : Row} (e : r ≡ row_at s i) {b : Bool} (now : said i r b) where
+  -- what was said before, and of row i what is said now
+  says : ℕ → Bool
+  says k = cond (eqb k i) b (p.says k)
+
+  says_now : (k : ℕ) → k ≡ i → says k ≡ b
+  unfolding says
+  says_now k h = ap (λ (t : Bool). cond t b (p.says k)) (eq-eqb k i h)
+
+  says_before : (k : ℕ) → k < i → says k ≡ p.says k
+  unfolding says
+  says_before k l = ap (λ (t : Bool). cond t b (p.says k)) (ne_eqb k i (λ h. omega (arith, h)))
+
+  of_each : (k : ℕ) → k < i + 1 → said k (row_at s₀ k) (says k)
+  of_each k l = go (eq_or_ne k i)
+    where
+      go : (k ≡ i) ⊎ (k ≢ i) → said k (row_at s₀ k) (says k)
+      go (inl h) = subst⁻¹ (λ (n : ℕ). said n (row_at s₀ n) (says n)) h (subst⁻¹ (said i (row_at s₀ i)) (says_now i refl) (subst (λ (x : Row). said i x b) (e ∙ swept_row p.says s₀ s i w small p.swept) now))
+      go (inr h) = let before : k < i = omega (arith, h) in subst⁻¹ (said k (row_at s₀ k)) (says_before k before) (p.of_each k before)
+
+  swept : Swept says s₀ s i w
+  swept =
+      record {
+        within = p.swept.within;
+        size = p.swept.size;
+        below = p.swept.below;
+        above = p.swept.above;
+        rows = p.swept.rows ∙ sym (staying_same says p.says s₀ i says_before);
+      }
+
+  pub passing_stays : {s' : List ℕ} → b ≡ true → Moved s s' (row_place i) (row_place w) 3 → Passing said s₀ s' (i + 1) (w + 1)
+  passing_stays t m = record { says = says; of_each = of_each; swept = swept_stays small swept (says_now i refl ∙ t) m }
+
+  pub passing_falls : b ≡ false → Passing said s₀ s (i + 1) w
+  passing_falls t = record { says = says; of_each = of_each; swept = swept_falls small swept (says_now i refl ∙ t) }
 
 -- zeros behind the rows kept, and the count
 pub closed : (s z : List ℕ) (w n : ℕ) → length s ≡ 1602 → w ≤ n → n ≤ 256 → Zeroed s z (w * 3 + 65) (n * 3 + 65) → Closed s (set z 64 w) w n (n - w)
@@ -141,6 +189,23 @@ swept_closed stays rows s₀ s s' i w n lost f all-of-them too are p c =
           certificates_end = λ k a. high k (omega (arith, f.rows)) ∙ f.certificates_end k (omega (arith, high 833 (omega (arith, f.rows))));
         }
 
+pub passing_read : {said : ℕ → Row → Bool → Type 0} {s₀ s s' : List ℕ} {i w w' : ℕ} → s ≡ s' → w ≡ w' → Passing said s₀ s' i w' → Passing said s₀ s i w
+passing_read {said} {s₀} {s} {s'} {i} {w} {w'} e d p = subst⁻¹ (λ (l : List ℕ). Passing said s₀ l i w) e (subst⁻¹ (λ (n : ℕ). Passing said s₀ s' i n) d p)
+
+pub passing_closed : {said : ℕ → Row → Bool → Type 0} {s₀ s s' : List ℕ} {w n lost : ℕ} → Formed s₀ → n ≡ row_count s₀ → (i : ℕ) → i ≡ n → Passing said s₀ s i w → Closed s s' w n lost → RowsKept said s₀ s' lost
+passing_closed {said} {s₀} {s} {s'} {w} {n} {lost} f too i all-of-them p c =
+    record {
+      says = p.says;
+      of_each = λ k l. p.of_each k (omega arith);
+      left = swept_closed p.says (staying p.says s₀ (row_count s₀)) s₀ s s' i w n lost f (all-of-them ∙ too) too refl p.swept c;
+    }
+
+-- where the test always says the same, those are left of which it says so
+pub kept_as : {said : ℕ → Row → Bool → Type 0} {s s' : List ℕ} {lost : ℕ} {rows : List Row} (stays : ℕ → Bool) → RowsKept said s s' lost
+    → ((i : ℕ) → i < row_count s → (b : Bool) → said i (row_at s i) b → b ≡ stays i) → staying stays s (row_count s) ≡ rows → RowsLeft s s' rows lost
+kept_as {said} {s} {s'} {lost} stays k same e =
+    subst (λ (l : List Row). RowsLeft s s' l lost) (staying_same k.says stays s (row_count s) (λ i l. same i l (k.says i) (k.of_each i l)) ∙ e) k.left
+
 -- where there are no rows, none is left, and nothing changes
 pub none_left : (ok : List Row → Row → Bool) (s : List ℕ) → Formed s → row_count s ≡ 0 → RowsLeft s s (left ok (decode s).rows) 0
 unfolding decode first_rows left
@@ -159,18 +224,18 @@ none_left ok s f e =
 -- ── which rows stay ──
 
 -- those that were not said to fall are what is left
-pub staying-left : (w : World) (s verdicts : List ℕ) → Judged w s verdicts → (n : ℕ) → n ≤ row_count s → staying (is_kept verdicts) s n ≡ left (supported w) (first_rows s n)
+pub staying-left : (w : World) (s : List ℕ) (verdicts : List (Option Verdict)) → Judged w s verdicts → (n : ℕ) → n ≤ row_count s → staying (is_kept verdicts) s n ≡ left (supported w) (first_rows s n)
 unfolding staying left first_rows
 staying-left w s verdicts j zero h = refl
 staying-left w s verdicts j (suc n) h = step (staying-left w s verdicts j n (omega arith))
   where
-    by : (b c : Bool) → not (eqb (cond b (cond c 3 1) 2) 2) ≡ b
+    by : (b c : Bool) → not_falling (Some (cond b (cond c Twice Stays) Falls)) ≡ b
     by true true = refl
     by true false = refl
     by false c = refl
 
     said : is_kept verdicts n ≡ supported w (kept w s n) (row_at s n)
-    said = ap (λ (v : ℕ). not (eqb v 2)) (j.said n (omega arith)) ∙ by (supported w (kept w s n) (row_at s n)) (active (kept w s n) (row_at s n).user (row_at s n).role)
+    said = ap not_falling (j.said n (omega arith)) ∙ by (supported w (kept w s n) (row_at s n)) (active (kept w s n) (row_at s n).user (row_at s n).role)
 
     step : staying (is_kept verdicts) s n ≡ left (supported w) (first_rows s n) → staying (is_kept verdicts) s (suc n) ≡ left (supported w) (first_rows s (suc n))
     step e = (λ k. cond (said k) (e k ++ (row_at s n ∷ [])) (e k)) ∙ sym (ap (left (supported w)) (rows_more s n) ∙ left_last (supported w) (first_rows s n) (row_at s n))

@@ -1,24 +1,27 @@
 -- What the pass over the rows leaves, step by step: by places while it runs, over values once it is closed.
-use Rattle.std.specs.Prelude.{ℕ, zero, suc, ◌+◌, ◌*◌, ◌≤◌, ◌<◌, ◌≡◌, Bool, true, false, not, cond, List, [], ◌∷◌, ◌++◌, eqb, length, get_or}
+use Rattle.std.specs.Prelude.{ℕ, zero, suc, ◌+◌, ◌*◌, ◌≤◌, ◌<◌, ◌≡◌, Bool, true, false, cond, Option, Some, None, List, [], ◌∷◌, ◌++◌, length, get_or}
 use Rattle.model.specs.Values.{with_rows}
 use Rattle.model.specs.Layout.{decode, encode, row_count_at, rows_at, row_count}
 use Rattle.model.specs.Limits.{row_width}
 use Rattle.model.specs.declared.Row.{Row}
 use Rattle.table.specs.Entries.{row_at, first_rows}
-use Rattle.table.specs.Writes.{Moved}
+use Rattle.support.specs.Verdicts.{said_of}
+use Rattle.support.specs.declared.Verdict.{Verdict}
+use Rattle.support.specs.declared.Verdict.TheVariants.{Stays, Falls, Twice}
 
 -- where row i begins
 abbrev pub row_place : ℕ → ℕ
 row_place i = i * row_width + rows_at
 
--- row i stands behind the first w rows if it stays, and nothing changes if not. `kept` rows are kept now
-pub record Settled (stays : Bool) (s s' : List ℕ) (w i kept : ℕ) : Type 0 where
-  pub stood : stays ≡ true → Moved s s' (row_place i) (row_place w) row_width × (kept ≡ w + 1)
-  pub fell : stays ≡ false → (s' ≡ s) × (kept ≡ w)
-
 -- row i was not said to fall
-abbrev pub is_kept : List ℕ → ℕ → Bool
-is_kept verdicts i = not (eqb (get_or verdicts i 0) 2)
+abbrev pub not_falling : Option Verdict → Bool
+not_falling None = true
+not_falling (Some Stays) = true
+not_falling (Some Falls) = false
+not_falling (Some Twice) = true
+
+abbrev pub is_kept : List (Option Verdict) → ℕ → Bool
+is_kept verdicts i = not_falling (said_of verdicts i)
 
 -- of the first n rows those that stay, by their places
 unfoldable pub staying : (ℕ → Bool) → List ℕ → ℕ → List Row
@@ -47,3 +50,9 @@ pub record Closed (s s' : List ℕ) (w n lost : ℕ) : Type 0 where
 pub record RowsLeft (s s' : List ℕ) (rows : List Row) (lost : ℕ) : Type 0 where
   pub state : s' ≡ encode (with_rows (decode s) rows)
   pub count : lost + length rows ≡ length (decode s).rows
+
+-- of each row the test has said whether it stays, and those that stay are left
+pub record RowsKept (said : ℕ → Row → Bool → Type 0) (s s' : List ℕ) (lost : ℕ) : Type 0 where
+  pub says : ℕ → Bool
+  pub of_each : (i : ℕ) → i < row_count s → said i (row_at s i) (says i)
+  pub left : RowsLeft s s' (staying says s (row_count s)) lost

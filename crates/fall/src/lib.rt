@@ -10,12 +10,14 @@ ghost use Rattle.model.specs.Conditions.{supported};
 ghost use Rattle.model.specs.Left.{left};
 ghost use Rattle.model.specs.Sound.{well_formed};
 ghost use Rattle.model.specs.Calls.{of_user};
+ghost use Rattle.model.specs.declared.Row.{Row};
 ghost use Rattle.table.specs.Entries.{world_at, Sized};
 ghost use Rattle.marks.specs.Owned.{InRange};
 ghost use Rattle.table.specs.Writes.{Moved};
-ghost use Rattle.fall.specs.Pass.{row_place, Settled, is_kept, Swept, Closed, RowsLeft};
+ghost use Rattle.fall.specs.Pass.{row_place, is_kept, Closed, RowsLeft, RowsKept};
 
-use model::{MOST_ROWS, ROW_COUNT_AT, ROW_WIDTH, ROWS_AT};
+use model::{Lent, ROW_COUNT_AT, ROW_WIDTH, ROWS_AT, Row};
+use support::Verdict;
 
 // Row i stands behind the first w rows. A row that need not move is not written.
 fn keep_row(state: &mut [u16], w: usize, i: usize)
@@ -32,18 +34,6 @@ fn keep_row(state: &mut [u16], w: usize, i: usize)
     }
 }
 
-// Row i stays, or not. Returns how many rows are kept now.
-fn settle_row(state: &mut [u16], stays: bool, w: usize, i: usize) -> usize
-    requires { Sized state.old × (w ≤ i) × (i < most_rows) }
-    ensures { Settled stays state.old state.new w i result }
-{
-    if stays {
-        keep_row(state, w, i);
-        return w + 1;
-    }
-    w
-}
-
 // Of n rows the first w are kept: the others become zero, and the count is w. Returns how many were lost.
 fn close(state: &mut [u16], w: usize, n: usize) -> u16
     requires { (length state.old ≡ state_size) × (w ≤ n) × (n ≤ most_rows) }
@@ -54,33 +44,41 @@ fn close(state: &mut [u16], w: usize, n: usize) -> u16
     (n - w) as u16
 }
 
-// The pass from the first row to the last: those that were not said to fall are kept. Returns how many they are.
-fn sweep(state: &mut [u16], verdicts: &[u8], n: usize) -> usize
-    requires { Sized state.old × (n ≡ row_count state.old) × (length verdicts.now ≡ most_rows) }
-    ensures { Swept (λ (i : ℕ). is_kept verdicts.now i) state.old state.new n result }
+// The pass from the first row to the last: those of which the test says so stay. Returns how many were lost.
+fn sweep<F: Fn(usize, Row) -> bool>(state: &mut [u16], stays: F) -> u16
+    requires formed { well_formed state.old ≡ true }
+    requires callable { (i : ℕ) (row : Row) → i < most_rows → F.pre stays i row }
+    ensures { RowsKept (F.post stays) state.old state.new result }
 {
-    let mut i: usize = 0;
-    let mut w: usize = 0;
-    while i < n {
-        w = settle_row(state, verdicts[i] != support::FALLS, w, i);
-        i += 1;
+    let n = table::wide(state[ROW_COUNT_AT]);
+    let mut w = 0;
+    for i in 0..n {
+        if stays(i, table::row_at(state, i)) {
+            keep_row(state, w, i);
+            w += 1;
+        }
     }
-    w
+    close(state, w, n)
+}
+
+// Row i was not said to fall.
+fn is_kept(verdicts: &[Option<Verdict>], i: usize) -> bool
+    requires { i < length verdicts.now }
+    ensures { result ≡ is_kept verdicts.now i }
+{
+    verdicts[i] != Some(Verdict::Falls)
 }
 
 // Rows that have lost their support fall. Where there are none, nothing is made ready.
-pub fn fall(rules: &[u16], kinds: &[u16], state: &mut [u16]) -> u16
+pub fn fall(policy: Lent, state: &mut [u16]) -> u16
     requires { (well_formed state.old ≡ true) × InRange state.old }
-    ensures { RowsLeft state.old state.new (left (supported (world_at rules.now kinds.now state.old)) (decode state.old).rows) result }
+    ensures { RowsLeft state.old state.new (left (supported (world_at policy.entry.rules.now policy.entry.kinds.now state.old)) (decode state.old).rows) result }
 {
-    let n = table::wide(state[ROW_COUNT_AT]);
-    if n == 0 {
+    if state[ROW_COUNT_AT] == 0 {
         return 0;
     }
-    let mut verdicts = [0u8; MOST_ROWS];
-    support::judge_rows(rules, kinds, state, &mut verdicts);
-    let w = sweep(state, &verdicts, n);
-    close(state, w, n)
+    let verdicts = support::judge_rows(policy, state);
+    sweep(state, |i, _| is_kept(&verdicts, i))
 }
 
 // The user's rows go.
@@ -88,13 +86,5 @@ pub fn drop_user(state: &mut [u16], user: u16) -> u16
     requires { well_formed state.old ≡ true }
     ensures { RowsLeft state.old state.new (without (of_user user) (decode state.old).rows) result }
 {
-    let n = table::wide(state[ROW_COUNT_AT]);
-    let mut i: usize = 0;
-    let mut w: usize = 0;
-    while i < n {
-        let row = table::row_at(state, i);
-        w = settle_row(state, row.user != user, w, i);
-        i += 1;
-    }
-    close(state, w, n)
+    sweep(state, |_, row| row.user != user)
 }

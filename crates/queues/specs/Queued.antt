@@ -1,15 +1,13 @@
 -- What a queue says of the entries of a table: which one comes next, and that none of its own was passed over.
-use Rattle.std.specs.Prelude.{ℕ, ◌+◌, ◌*◌, ◌%◌, ◌≤◌, ◌<◌, ◌≡◌, List, length, get_or}
+use Rattle.std.specs.Prelude.{ℕ, ◌+◌, ◌*◌, ◌%◌, ◌≤◌, ◌<◌, ◌≡◌, ◌≢◌, Option, Some, None, List, length, get_or}
+use Rattle.queues.specs.declared.Queues.{Queues}
 
--- how many numbers an entry has, and how many entries a table has at most; the number past them all says that there is none
+-- how many numbers an entry has, and how many entries a table has at most
 abbrev pub entry_width : ℕ
 entry_width = 3
 
 abbrev pub most_entries : ℕ
 most_entries = 256
-
-abbrev pub no_entry : ℕ
-no_entry = most_entries
 
 -- the user of entry i, where the entries stand from `place` on
 abbrev pub user_at : List ℕ → ℕ → ℕ → ℕ
@@ -22,19 +20,36 @@ queues = 512
 abbrev pub queue : ℕ → ℕ
 queue u = u % queues
 
--- of n entries, k is the first from i on that is in queue b; past them, if there is none
-pub record Link (s : List ℕ) (place n b i k : ℕ) : Type 0 where
+-- of n entries, k is the first from i on that is in queue b
+pub record FirstAt (s : List ℕ) (place n b i k : ℕ) : Type 0 where
   pub ahead : i ≤ k
-  pub within : k ≤ most_entries
-  pub there : k < n → queue (user_at s place k) ≡ b
+  pub within : k < n
+  pub there : queue (user_at s place k) ≡ b
   pub first : (h : ℕ) → i ≤ h → h < n → queue (user_at s place h) ≡ b → k ≤ h
 
+-- of n entries, the first from i on that is in queue b, if there is one
+abbrev pub Link : List ℕ → ℕ → ℕ → ℕ → ℕ → Option ℕ → Type 0
+Link s place n b i None = (h : ℕ) → i ≤ h → h < n → queue (user_at s place h) ≢ b
+Link s place n b i (Some k) = FirstAt s place n b i k
+
 -- the entries from i on are queued: each queue's first stands in `heads`
-pub record Begins (s : List ℕ) (place n i : ℕ) (heads : List ℕ) : Type 0 where
+pub record Begins (s : List ℕ) (place n i : ℕ) (heads : List (Option ℕ)) : Type 0 where
   pub size : length heads ≡ queues
-  pub begins : (b : ℕ) → b < queues → Link s place n b i (get_or heads b 0)
+  pub begins : (b : ℕ) → b < queues → Link s place n b i (get_or heads b None)
 
 -- and behind each entry the next of its queue in `next`
-pub record GoesOn (s : List ℕ) (place n i : ℕ) (next : List ℕ) : Type 0 where
+pub record GoesOn (s : List ℕ) (place n i : ℕ) (next : List (Option ℕ)) : Type 0 where
   pub size : length next ≡ most_entries
-  pub goes_on : (k : ℕ) → i ≤ k → k < n → Link s place n (queue (user_at s place k)) (k + 1) (get_or next k 0)
+  pub goes_on : (k : ℕ) → i ≤ k → k < n → Link s place n (queue (user_at s place k)) (k + 1) (get_or next k None)
+
+-- all n entries that stand from `place` on are queued
+pub record Queued (s : List ℕ) (place n : ℕ) (q : Queues) : Type 0 where
+  pub begun : Begins s place n 0 q.heads
+  pub behind : GoesOn s place n 0 q.next
+
+-- the first entry of the user's queue, and the entry that comes behind entry k in its queue
+abbrev pub first_entry : Queues → ℕ → Option ℕ
+first_entry q u = get_or q.heads (queue u) None
+
+abbrev pub entry_behind : Queues → ℕ → Option ℕ
+entry_behind q k = get_or q.next k None

@@ -6,7 +6,7 @@ use mathlib.Core.Bool.{Bool, true, false, not, cond, ◌&&◌, and-true, and-fal
 use mathlib.Core.List.{List, [], ◌∷◌, ◌++◌}
 use native.Mathlib.Omega.{arith}
 use lib.Dec.{eqb, ltb}
-use lib.ListN.{length, get_or, take}
+use lib.ListN.{length, take}
 use lib.Seq.{take-suc}
 use Rattle.model.specs.Lists.{all, all_over_earlier}
 use Rattle.model.specs.Limits.{users, roles}
@@ -19,7 +19,10 @@ use Rattle.model.proofs.Tests.{of_true, and_right, all_append, earlier_append, e
 use Rattle.model.proofs.Sweep.{left_whole}
 use Rattle.table.specs.Entries.{row_at, first_rows, world_at, Sized, rules_only}
 use Rattle.table.proofs.Entries.{rows_more}
-use Rattle.support.specs.Verdicts.{kept, verdict, Judged}
+use Rattle.std.specs.Prelude.{Option, Some, None}
+use Rattle.support.specs.Verdicts.{kept, verdict, said_of, Judged}
+use Rattle.support.specs.declared.Verdict.{Verdict}
+use Rattle.support.specs.declared.Verdict.TheVariants.{Stays, Falls, Twice}
 use Rattle.sound.specs.Fitting.{fit_clauses, row_fits, said_to_stay}
 
 -- ── two parts of a test ──
@@ -61,33 +64,33 @@ rows_parts w rows = earlier_parts (row_sound w) (row_fits w.policy) (stays w) (r
 
 -- ── what was said ──
 
-said_one : (active supported : Bool) → eqb (cond supported (cond active 3 1) 2) 1 ≡ (not active && supported)
+said_one : (active supported : Bool) → said_to_stay (Some (cond supported (cond active Twice Stays) Falls)) ≡ (not active && supported)
 said_one true true = refl
 said_one true false = refl
 said_one false true = refl
 said_one false false = refl
 
-module _ (w : World) (s verdicts : List ℕ) (judged : Judged w s verdicts) where
+module _ (w : World) (s : List ℕ) (verdicts : List (Option Verdict)) (judged : Judged w s verdicts) where
   -- where all rows before stay, they are what is left of themselves
-  row_stays : (k : ℕ) → suc k ≤ row_count s → all_over_earlier (stays w) [] (first_rows s k) ≡ true → said_to_stay (get_or verdicts k 0) ≡ stays w (first_rows s k) (row_at s k)
+  row_stays : (k : ℕ) → suc k ≤ row_count s → all_over_earlier (stays w) [] (first_rows s k) ≡ true → said_to_stay (said_of verdicts k) ≡ stays w (first_rows s k) (row_at s k)
   row_stays k h e =
       let t = earlier_map (stays w) (supported w) (λ earlier r u. and_right (not (active earlier r.user r.role)) (supported w earlier r) u) [] (first_rows s k) (of_true (all_over_earlier (stays w) [] (first_rows s k)) e) in
       let whole : kept w s k ≡ first_rows s k = left_whole (supported w) (first_rows s k) t in
       ap said_to_stay (judged.said k (omega arith))
-      ∙ ap (λ (rows : List Row). said_to_stay (verdict w rows (row_at s k))) whole
+      ∙ ap (λ (rows : List Row). said_to_stay (Some (verdict w rows (row_at s k)))) whole
       ∙ said_one (active (first_rows s k) (row_at s k).user (row_at s k).role) (supported w (first_rows s k) (row_at s k))
 
   first_stay : (k : ℕ) → k ≤ row_count s → row_count s ≤ 256 → all said_to_stay (take k verdicts) ≡ all_over_earlier (stays w) [] (first_rows s k)
   unfolding first_rows
   first_stay zero h few = refl
   first_stay (suc k) h few =
-      ap (all said_to_stay) (take-suc verdicts k 0 (omega (arith, judged.size)))
-      ∙ all_append said_to_stay (take k verdicts) (get_or verdicts k 0 ∷ [])
-      ∙ ap (λ (b : Bool). b && (said_to_stay (get_or verdicts k 0) && true)) (first_stay k (omega arith) few)
+      ap (all said_to_stay) (take-suc verdicts k None (omega (arith, judged.size)))
+      ∙ all_append said_to_stay (take k verdicts) (said_of verdicts k ∷ [])
+      ∙ ap (λ (b : Bool). b && (said_to_stay (said_of verdicts k) && true)) (first_stay k (omega arith) few)
       ∙ go (all_over_earlier (stays w) [] (first_rows s k)) (row_stays k h)
       ∙ sym (ap (all_over_earlier (stays w) []) (rows_more s k) ∙ earlier_append (stays w) [] (first_rows s k) (row_at s k ∷ []))
     where
-      go : (b : Bool) → (b ≡ true → said_to_stay (get_or verdicts k 0) ≡ stays w (first_rows s k) (row_at s k)) → (b && (said_to_stay (get_or verdicts k 0) && true)) ≡ (b && (stays w (first_rows s k) (row_at s k) && true))
+      go : (b : Bool) → (b ≡ true → said_to_stay (said_of verdicts k) ≡ stays w (first_rows s k) (row_at s k)) → (b && (said_to_stay (said_of verdicts k) && true)) ≡ (b && (stays w (first_rows s k) (row_at s k) && true))
       go true f = ap (λ (b : Bool). b && true) (f refl)
       go false f = refl
 
@@ -104,7 +107,7 @@ module _ (rules kinds s : List ℕ) where
   rows_unnamed e = state_parts ∙ ap (λ (b : Bool). b && all_over_earlier (stays (world_at rules kinds s)) [] (decode s).rows) e
 
   -- and rows that are are sound if of each it is said that it stays
-  pub rows_judged : (verdicts : List ℕ) (n : ℕ) → n ≡ row_count s → Sized s → all (row_fits (rules_only rules)) (decode s).rows ≡ true → Judged (world_at rules kinds s) s verdicts → all said_to_stay (take n verdicts) ≡ all_over_earlier (row_sound (world_at rules kinds s)) [] (decode s).rows
+  pub rows_judged : (verdicts : List (Option Verdict)) (n : ℕ) → n ≡ row_count s → Sized s → all (row_fits (rules_only rules)) (decode s).rows ≡ true → Judged (world_at rules kinds s) s verdicts → all said_to_stay (take n verdicts) ≡ all_over_earlier (row_sound (world_at rules kinds s)) [] (decode s).rows
   unfolding decode first_rows
   rows_judged verdicts n count z e judged =
       ap (λ (k : ℕ). all said_to_stay (take k verdicts)) count

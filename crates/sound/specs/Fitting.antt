@@ -1,12 +1,14 @@
 -- What is judged in parts: of a row by itself, before it is judged over the rows before it, as only users, roles and kinds in range have
 -- a mark; and of a state's form.
-use Rattle.std.specs.Prelude.{ℕ, ◌+◌, ◌*◌, Bool, ◌&&◌, List, [], ◌∷◌, eqb, ltb, leb, length, take, drop}
+use Rattle.std.specs.Prelude.{ℕ, ◌+◌, ◌*◌, Bool, true, false, ◌&&◌, Option, Some, None, List, [], ◌∷◌, eqb, ltb, leb, length, take, drop}
 use Rattle.model.specs.Lists.{every, all, is_zero, is_bit}
 use Rattle.model.specs.Limits.{users, roles, most_rows, row_width, most_certificates, certificate_width}
 use Rattle.model.specs.Layout.{number, fact_numbers, row_count_at, certificate_count_at}
 use Rattle.model.specs.Values.{Policy}
 use Rattle.model.specs.Conditions.{rule_numbered}
 use Rattle.model.specs.declared.Row.{Row}
+use Rattle.support.specs.declared.Verdict.{Verdict}
+use Rattle.support.specs.declared.Verdict.TheVariants.{Stays, Falls, Twice}
 
 -- "ranges are kept, .. each active row's rule exists and has that role as target"
 unfoldable pub fit_clauses : Policy → Row → List Bool
@@ -21,8 +23,11 @@ abbrev pub row_fits : Policy → Row → Bool
 row_fits p r = every (fit_clauses p r)
 
 -- the verdict on a row is that it stays
-abbrev pub said_to_stay : ℕ → Bool
-said_to_stay v = eqb v 1
+abbrev pub said_to_stay : Option Verdict → Bool
+said_to_stay None = false
+said_to_stay (Some Stays) = true
+said_to_stay (Some Falls) = false
+said_to_stay (Some Twice) = false
 
 -- at a place stands a count of rows, and past so many of the rows behind it all numbers are zero
 unfoldable pub counted : List ℕ → ℕ → ℕ → ℕ → Bool

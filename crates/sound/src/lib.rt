@@ -2,7 +2,7 @@
 
 #![tactic(auto)]
 
-ghost use Rattle.std.specs.Prelude.{◌≡◌, ◌+◌, ◌*◌, ◌/◌, ◌<◌, ◌≤◌, true, false, [], length, take};
+ghost use Rattle.std.specs.Prelude.{◌≡◌, ◌+◌, ◌*◌, ◌/◌, ◌<◌, ◌≤◌, true, false, [], length};
 ghost use Rattle.model.specs.Lists.{all, any, all_over_earlier, is_bit};
 ghost use Rattle.model.specs.Limits.{state_size, most_certificates, most_kinds, kind_width};
 ghost use Rattle.model.specs.Layout.{decode, policy_of, fact_numbers};
@@ -17,6 +17,7 @@ use model::{
     MOST_CERTIFICATES, MOST_ROWS, ROLES, ROW_COUNT_AT, ROW_WIDTH, RULE_WIDTH, Row, STATE_SIZE,
     USERS,
 };
+use support::Verdict;
 
 // "64 facts, each 0 or 1"
 fn facts_are_bits(state: &[u16]) -> bool
@@ -181,33 +182,26 @@ fn rows_fit(rules: &[u16], state: &[u16]) -> bool
     (0..usize::from(state[ROW_COUNT_AT])).all(|i| row_fits(rules, table::row_at(state, i)))
 }
 
-// Each of the first n rows stays, and none stands twice.
-fn each_stays(verdicts: &[u8], n: usize) -> bool
-    requires { n ≤ length verdicts.now }
-    ensures { result ≡ all said_to_stay (take n verdicts.now) }
+// Each row stays, and none stands twice.
+fn each_stays(verdicts: &[Option<Verdict>]) -> bool
+    ensures { result ≡ all said_to_stay verdicts.now }
 {
-    let mut i: usize = 0;
-    while i < n {
-        if verdicts[i] != support::STAYS {
-            return false;
-        }
-        i += 1;
-    }
-    true
+    verdicts
+        .iter()
+        .all(|verdict| *verdict == Some(Verdict::Stays))
 }
 
 // "no (user, role) .. stands twice, .. each of its membership conditions holds, where "active" means active in an earlier row of the same
 // user"
-fn rows_sound(rules: &[u16], kinds: &[u16], state: &[u16]) -> bool
+fn rows_sound(policy: Lent, state: &[u16]) -> bool
     requires { Sized state.now × CertificatesInRange state.now }
-    ensures { result ≡ all_over_earlier (row_sound (world_at rules.now kinds.now state.now)) [] (decode state.now).rows }
+    ensures { result ≡ all_over_earlier (row_sound (world_at policy.entry.rules.now policy.entry.kinds.now state.now)) [] (decode state.now).rows }
 {
-    if !rows_fit(rules, state) {
+    if !rows_fit(policy.rules, state) {
         return false;
     }
-    let mut verdicts = [0u8; MOST_ROWS];
-    support::judge_rows(rules, kinds, state, &mut verdicts);
-    each_stays(&verdicts, table::wide(state[ROW_COUNT_AT]))
+    let verdicts = support::judge_rows(policy, state);
+    each_stays(&verdicts[..usize::from(state[ROW_COUNT_AT])])
 }
 
 // The certificates and the active rows are sound, each over those before it.
@@ -215,7 +209,7 @@ fn values_sound(policy: Lent, state: &[u16]) -> bool
     requires { Sized state.now × (length policy.kinds.now / kind_width ≤ most_kinds) }
     ensures { result ≡ sound_values (policy_of (without_rights policy.entry.rules.now policy.entry.kinds.now)) (decode state.now) }
 {
-    certificates_sound(policy.kinds, state) && rows_sound(policy.rules, policy.kinds, state)
+    certificates_sound(policy.kinds, state) && rows_sound(policy, state)
 }
 
 // "A state is sound if these hold, .."

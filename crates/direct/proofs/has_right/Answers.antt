@@ -10,6 +10,6 @@ pub returns-then-role-lt-ROLES : goal.returns-then-role-lt-ROLES
 unfolding holds_right
 returns-then-role-lt-ROLES c = ap (λ (n : ℕ). get_or c.args.having.now n false) c.wide.ensures ∙ sym (ap (λ (b : Bool). b && get_or c.args.having.now c.args.role false) (lt-ltb _ _ c.if-role-lt-ROLES.true))
 
-pub returns : goal.returns
+pub returns-else-role-lt-ROLES : goal.returns-else-role-lt-ROLES
 unfolding holds_right
-returns c = sym (ap (λ (b : Bool). b && get_or c.args.having.now c.args.role false) (le-ltb _ _ c.if-role-lt-ROLES.false))
+returns-else-role-lt-ROLES c = le-ltb _ _ c.if-role-lt-ROLES.false ∙ sym (ap (λ (b : Bool). b && get_or c.args.having.now c.args.role false) (le-ltb _ _ c.if-role-lt-ROLES.false))

@@ -1,16 +1,15 @@
 use Prim.Native.Nat.{ℕ}
-use mathlib.Core.Path.{refl, ap, ◌∙◌}
-use native.Mathlib.Omega.{arith}
+use mathlib.Core.Path.{◌∙◌}
+use mathlib.Core.Bool.{Bool, false, ◌||◌}
 use lib.Dec.{eqb}
-use Rattle.direct.specs.Having.{met}
-use Rattle.direct.proofs.Having.{met-here, met-before}
-use borrow.Author.Rules.{rules}
-use Rattle.direct.proofs.is_met.Goals.{then-rights-from, else-rights-from}
+use Rattle.std.proofs.Common.{rules}
+use borrow.Author.Tests.{tests}
+use Rattle.std.proofs.lemmas.Iterator.{YieldsList-from_slice}
+use Rattle.std.proofs.lemmas.Iterator.Consumers.{fold_from_yields_List}
+use Rattle.direct.proofs.Joined.{any_joined}
 use Rattle.direct.proofs.is_met.Goals as goal
 
-pub loop-j-init : goal.loop-j-init
-unfolding met
-loop-j-init c = (search rules, refl)
-
-pub loop-j-preserved : goal.loop-j-preserved
-loop-j-preserved c = (omega arith, elim c.if-rights-from.branch [ then-rights-from w ↦ ap (λ (n : ℕ). eqb n 1) w.found-is ∙ met-here c.args.rights.now c.args.privilege c.args.from c.loop-j.j w.if-rights-from.true | else-rights-from w ↦ met-before c.args.rights.now c.args.privilege c.args.from c.loop-j.j _ w.if-rights-from.false (ap (λ (n : ℕ). eqb n 1) w.found-is ∙ c.loop-j.invariant.1) ])
+pub returns : goal.returns
+returns c =
+    fold_from_yields_List _ (λ (b : Bool) (n : ℕ). b || eqb n c.args.privilege) false c.fold.result c.fold.ensures.ran (YieldsList-from_slice c.args.numbers.now cc) (λ a x b q k. search (rules, tests))
+    ∙ any_joined (λ (n : ℕ). eqb n c.args.privilege) c.args.numbers.now false

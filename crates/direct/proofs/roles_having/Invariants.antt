@@ -1,12 +1,7 @@
--- The invariant: the list says what the rights passed say.
-use Prim.Native.Nat.{◌≤◌, ◌-◌}
-use mathlib.Core.Path.{◌≡◌}
-use lib.ListN.{length}
+-- The invariant: the list says what the rights passed say, sixteen at a time.
+use Prim.Native.Nat.{◌*◌}
 use Rattle.direct.specs.Having.{Said}
 use Rattle.direct.proofs.roles_having.Given as goal
 
 abbrev pub invariant-loop-i : goal.invariant-loop-i
-invariant-loop-i l = (l.i ≤ l.n) × (length l.having ≡ 256) × Said l.rights l.privilege l.i l.having
-
-abbrev pub decreases-loop-i : goal.decreases-loop-i
-decreases-loop-i l = l.n - l.i
+invariant-loop-i l = Said l.rights l.privilege (l.i * 16) l.having

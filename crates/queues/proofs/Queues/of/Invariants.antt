@@ -1,9 +1,6 @@
 -- The invariant: the entries from i on are queued.
 use Rattle.queues.proofs.Linking.{Queueing}
-use Rattle.queues.proofs.queue_up.Given as goal
+use Rattle.queues.proofs.Queues.of.Given as goal
 
 abbrev pub invariant-loop-i : goal.invariant-loop-i
 invariant-loop-i l = Queueing l.state l.place l.n l.i l.heads l.next
-
-abbrev pub decreases-loop-i : goal.decreases-loop-i
-decreases-loop-i l = l.i
