@@ -1,37 +1,27 @@
 -- One row more of a table, number by number, and a line of the policy as a row.
-use Prim.Native.Nat.{ℕ, suc, ◌+◌, ◌-◌, ◌*◌, ◌≤◌, ◌<◌}
-use mathlib.Core.Path.{◌≡◌, sym, ap, ◌∙◌}
+use Prim.Native.Nat.{ℕ, ◌+◌, ◌-◌, ◌*◌, ◌≤◌, ◌<◌}
+use mathlib.Core.Path.{◌≡◌, refl, sym, ap, ◌∙◌}
 use mathlib.Core.Bool.{Bool, true, false, cond, true≢false}
 use mathlib.Core.Logic.{◌≢◌, ◌⊎◌, inl, inr}
-use mathlib.Core.List.{List, [], ◌∷◌, ◌++◌, append-nil, append_assoc}
+use mathlib.Core.List.{List, ◌∷◌, ◌++◌}
 use native.Mathlib.Omega.{arith}
-use native.Mathlib.Numerals.{add-one}
 use lib.Dec.{eqb, ltb}
-use lib.ListN.{length, get_or, take, drop, set, length-drop}
-use lib.Seq.{take-suc, take-suc-set, take_all}
+use lib.ListN.{length, take, drop, length-drop}
+use lib.Seq.{take_all}
 use borrow.Author.Tests.{ne_eqb, ltb-true}
 use Rattle.model.specs.Values.{Tables}
 use Rattle.model.specs.Layout.{number}
 use Rattle.model.proofs.Tests.{lt_or_ge}
 use Rattle.model.proofs.Numbers.{cells, part_cells}
+use Rattle.program.specs.Lines.{Line, unknown}
+use Rattle.program.specs.Said.{number_of, line_of_read, line_said}
+use Rattle.std.specs.Prelude.{Option, None}
+use Rattle.program.specs.declared.Line.{Line as Read}
+use Rattle.program.specs.declared.Word.{Word as Named}
+use Rattle.program.specs.declared.Word.TheVariants.{Rule, Kind, Right, Activate, Appoint, Revoke, Withdraw, Env, Logout, Invoke, Effective}
 use Rattle.program.specs.Program.{rule_row, kind_row, right_row, with_row}
-use Rattle.program.specs.declared.Line.{Line}
 use Rattle.load.specs.Loading.{tables_of, has_room}
 use Rattle.load.specs.declared.Counts.{Counts}
-
--- ── number by number ──
-
-pub one_more : (table before row : List ℕ) (at i : ℕ) → at + i < length table → i < length row → take (at + i) table ≡ before ++ take i row → take (at + (i + 1)) (set table (at + i) (get_or row i 0)) ≡ before ++ take (i + 1) row
-one_more table before row at i h k e =
-    let next : at + (i + 1) ≡ suc (at + i) = omega arith in
-    ap (λ (n : ℕ). take n (set table (at + i) (get_or row i 0))) next
-    ∙ take-suc-set table (at + i) (get_or row i 0) h
-    ∙ ap (λ (l : List ℕ). l ++ (get_or row i 0 ∷ [])) e
-    ∙ append_assoc before (take i row) (get_or row i 0 ∷ [])
-    ∙ ap (λ (l : List ℕ). before ++ l) (sym (ap (λ (n : ℕ). take n row) (add-one i) ∙ take-suc row i 0 k))
-
-pub none_yet : (table row : List ℕ) (at : ℕ) → take (at + 0) table ≡ take at table ++ take 0 row
-none_yet table row at = let e : at + 0 ≡ at = omega arith in ap (λ (n : ℕ). take n table) e ∙ sym (append-nil (take at table))
 
 -- ── the numbers of a line, one by one ──
 
@@ -57,24 +47,21 @@ by_word : (t : Tables) (l : Line) {w : ℕ} → l.word ≡ w → with_word w t l
 unfolding with_row
 by_word t l e = ap (λ (n : ℕ). with_word n t l) (sym e)
 
-module _ (rules kinds rights rules' kinds' rights' : List ℕ) (c : Counts) (l : Line) where
-  pub with_rule : l.word ≡ 0 → kinds' ≡ kinds → rights' ≡ rights → take (c.rules * 11 + 11) rules' ≡ take (c.rules * 11) rules ++ rule_row l → tables_of rules' kinds' rights' (record { rules = c.rules + 1; kinds = c.kinds; rights = c.rights }) ≡ with_row (tables_of rules kinds rights c) l
-  with_rule w k r e =
-      let more : (c.rules + 1) * 11 ≡ c.rules * 11 + 11 = omega arith in
-      (λ i. record { rules = (ap (λ (n : ℕ). take n rules') more ∙ e) i; kinds = take (c.kinds * 7) (k i); rights = take (c.rights * 2) (r i) })
-      ∙ by_word (tables_of rules kinds rights c) l w
+module _ (rules kinds rights : List ℕ) (c : Counts) (l : Line) (table : List ℕ) (n : ℕ) where
+  pub with_rule : l.word ≡ 0 → n ≡ c.rules + 1 → take (c.rules * 11 + 11) table ≡ take (c.rules * 11) rules ++ rule_row l → tables_of table kinds rights (record { rules = n; kinds = c.kinds; rights = c.rights }) ≡ with_row (tables_of rules kinds rights c) l
+  with_rule w m e =
+      let more : n * 11 ≡ c.rules * 11 + 11 = omega (arith, m) in
+      (λ i. record { rules = (ap (λ (k : ℕ). take k table) more ∙ e) i; kinds = take (c.kinds * 7) kinds; rights = take (c.rights * 2) rights }) ∙ by_word (tables_of rules kinds rights c) l w
 
-  pub with_kind : l.word ≡ 1 → rules' ≡ rules → rights' ≡ rights → take (c.kinds * 7 + 7) kinds' ≡ take (c.kinds * 7) kinds ++ kind_row l → tables_of rules' kinds' rights' (record { rules = c.rules; kinds = c.kinds + 1; rights = c.rights }) ≡ with_row (tables_of rules kinds rights c) l
-  with_kind w k r e =
-      let more : (c.kinds + 1) * 7 ≡ c.kinds * 7 + 7 = omega arith in
-      (λ i. record { rules = take (c.rules * 11) (k i); kinds = (ap (λ (n : ℕ). take n kinds') more ∙ e) i; rights = take (c.rights * 2) (r i) })
-      ∙ by_word (tables_of rules kinds rights c) l w
+  pub with_kind : l.word ≡ 1 → n ≡ c.kinds + 1 → take (c.kinds * 7 + 7) table ≡ take (c.kinds * 7) kinds ++ kind_row l → tables_of rules table rights (record { rules = c.rules; kinds = n; rights = c.rights }) ≡ with_row (tables_of rules kinds rights c) l
+  with_kind w m e =
+      let more : n * 7 ≡ c.kinds * 7 + 7 = omega (arith, m) in
+      (λ i. record { rules = take (c.rules * 11) rules; kinds = (ap (λ (k : ℕ). take k table) more ∙ e) i; rights = take (c.rights * 2) rights }) ∙ by_word (tables_of rules kinds rights c) l w
 
-  pub with_right : l.word ≡ 2 → rules' ≡ rules → kinds' ≡ kinds → take (c.rights * 2 + 2) rights' ≡ take (c.rights * 2) rights ++ right_row l → tables_of rules' kinds' rights' (record { rules = c.rules; kinds = c.kinds; rights = c.rights + 1 }) ≡ with_row (tables_of rules kinds rights c) l
-  with_right w k r e =
-      let more : (c.rights + 1) * 2 ≡ c.rights * 2 + 2 = omega arith in
-      (λ i. record { rules = take (c.rules * 11) (k i); kinds = take (c.kinds * 7) (r i); rights = (ap (λ (n : ℕ). take n rights') more ∙ e) i })
-      ∙ by_word (tables_of rules kinds rights c) l w
+  pub with_right : l.word ≡ 2 → n ≡ c.rights + 1 → take (c.rights * 2 + 2) table ≡ take (c.rights * 2) rights ++ right_row l → tables_of rules kinds table (record { rules = c.rules; kinds = c.kinds; rights = n }) ≡ with_row (tables_of rules kinds rights c) l
+  with_right w m e =
+      let more : n * 2 ≡ c.rights * 2 + 2 = omega (arith, m) in
+      (λ i. record { rules = take (c.rules * 11) rules; kinds = take (c.kinds * 7) kinds; rights = (ap (λ (k : ℕ). take k table) more ∙ e) i }) ∙ by_word (tables_of rules kinds rights c) l w
 
 -- ── room ──
 
@@ -107,3 +94,28 @@ module _ (c : Counts) (l : Line) where
 
   pub rights-below : has_room c l ≡ true → l.word ≡ 2 → c.rights < 2048
   rights-below h e = ltb-true c.rights 2048 (room e ∙ h)
+
+-- there is none for a record that is no line
+pub room_unknown : (c : Counts) → has_room c unknown ≡ false
+unfolding has_room
+room_unknown c = refl
+
+pub no_line : (c : Counts) (r : Option Read) (l : Line) → line_said r ≡ l → r ≡ None → has_room c l ≡ false
+no_line c r l e n = ap (has_room c) (sym e ∙ ap line_said n) ∙ room_unknown c
+
+-- a line of code with room whose word is neither of the first two is a right
+pub is-right : (c : Counts) (l : Read) → has_room c (line_of_read l) ≡ true → (l.word ≡ Rule → ⊥) → (l.word ≡ Kind → ⊥) → number_of l.word ≡ 2
+is-right c l h = go l.word (room c (line_of_read l) refl ∙ h)
+  where
+    go : (w : Named) → room_for c (number_of w) ≡ true → (w ≡ Rule → ⊥) → (w ≡ Kind → ⊥) → number_of w ≡ 2
+    go Rule e a b = absurd (a refl)
+    go Kind e a b = absurd (b refl)
+    go Right e a b = refl
+    go Activate e a b = absurd (true≢false (sym e))
+    go Appoint e a b = absurd (true≢false (sym e))
+    go Revoke e a b = absurd (true≢false (sym e))
+    go Withdraw e a b = absurd (true≢false (sym e))
+    go Env e a b = absurd (true≢false (sym e))
+    go Logout e a b = absurd (true≢false (sym e))
+    go Invoke e a b = absurd (true≢false (sym e))
+    go Effective e a b = absurd (true≢false (sym e))

@@ -2,7 +2,7 @@
 -- event had come.
 use Prim.Native.Nat.{ℕ, suc, ◌+◌, ◌*◌, ◌/◌, ◌≤◌, ◌<◌}
 use mathlib.Core.Path.{◌≡◌, refl, sym, ap, ◌∙◌, subst⁻¹}
-use mathlib.Core.Bool.{Bool, true, false}
+use mathlib.Core.Bool.{Bool, true, false, true≢false}
 use mathlib.Core.Logic.{◌⊎◌, inl, inr}
 use mathlib.Core.List.{List, [], ◌∷◌, map}
 use native.Mathlib.Omega.{arith}
@@ -12,21 +12,23 @@ use lib.Dec.{leb}
 use lib.ListN.{length, take, replicate}
 use lib.Seq.{length-take-le}
 use borrow.Author.Tests.{ltb-false, lt-leb, le-leb}
-use Rattle.model.specs.Limits.{most_rules, rule_width, most_kinds, kind_width, most_rights, right_width}
 use Rattle.model.specs.Values.{Tables}
 use Rattle.model.specs.Layout.{encode}
 use Rattle.model.proofs.Tests.{lt_or_ge}
-use Rattle.program.specs.Vocabulary.{numbered}
-use Rattle.program.specs.Lines.{line_of}
+use Rattle.program.specs.Vocabulary.{word_of, numbered}
+use Rattle.program.specs.Text.{is_quoted, unquoted}
+use Rattle.program.specs.Lines.{Line, line_clauses, line_from, line_of}
 use Rattle.program.specs.Program.{Machine, is_full, after_policy, after_event, step, steps, with_row, start}
-use Rattle.program.specs.declared.Line.{Line}
 use Rattle.program.proofs.Counted.{counted}
 use Rattle.program.proofs.Steps.{bad_by, bad_is, came_or_not, bad_written, event_taken, policy-taken}
 use Rattle.reader.specs.Reading.{record_at, line_at, next_at}
-use Rattle.reader.proofs.Walking.{lines_from_lem, none_from, next-behind, next-within}
+use Rattle.reader.proofs.Walking.{record_past, lines_from_lem, none_from, next-behind, next-within}
 use Rattle.load.specs.Loading.{tables_of, has_room, running, lines_from, Loads}
+use Rattle.load.specs.Filling.{tables_in, Fits}
 use Rattle.load.specs.declared.Counts.{Counts}
-use Rattle.load.proofs.Appending.{room, rules-below, kinds-below, rights-below, is_right_lem}
+use Rattle.load.specs.declared.Loaded.{Loaded}
+use Rattle.load.specs.declared.Tables.{Tables as Filled}
+use Rattle.load.proofs.Appending.{room, room_unknown, rules-below, kinds-below, rights-below, is_right_lem}
 
 -- ── full, or not ──
 
@@ -119,68 +121,82 @@ two_numbers c bytes h = go (lt_or_ge (line_of bytes).word 1) (lt_or_ge (line_of 
 
 -- ── the records of the policy, one after the other ──
 
--- before each record: no more records were taken than bytes, each table has room for its most rows and no more than these, and the
+-- before each record: no more records were taken than bytes, the tables have room for their most rows and no more than these, and the
 -- program comes to what a machine comes to that has taken the rows so far and goes on from here
-pub record Going (text rules kinds rights : List ℕ) (at taken : ℕ) (c : Counts) : Type 0 where
+pub record Going (text : List ℕ) (at taken : ℕ) (t : Filled) : Type 0 where
   pub in_text : at ≤ length text
   pub few : taken ≤ at
-  pub rules_size : length rules ≡ most_rules * rule_width
-  pub kinds_size : length kinds ≡ most_kinds * kind_width
-  pub rights_size : length rights ≡ most_rights * right_width
-  pub rules_room : c.rules ≤ 512
-  pub kinds_room : c.kinds ≤ 128
-  pub rights_room : c.rights ≤ 2048
-  pub so_far : steps start (lines_from text 0) ≡ steps (loading (tables_of rules kinds rights c) taken) (lines_from text at)
+  pub fits : Fits t
+  pub so_far : steps start (lines_from text 0) ≡ steps (loading (tables_in t) taken) (lines_from text at)
 
-pub going_starts : (text rules kinds rights : List ℕ) → length rules ≡ most_rules * rule_width → length kinds ≡ most_kinds * kind_width → length rights ≡ most_rights * right_width → Going text rules kinds rights 0 0 (record { rules = 0; kinds = 0; rights = 0 })
+pub going_starts : (text : List ℕ) (t : Filled) → Fits t → t.counts ≡ record { rules = 0; kinds = 0; rights = 0 } → Going text 0 0 t
 unfolding encode
-going_starts text rules kinds rights a b c =
-    record { in_text = omega arith; few = omega arith; rules_size = a; kinds_size = b; rights_size = c; rules_room = omega arith; kinds_room = omega arith; rights_room = omega arith; so_far = refl }
+going_starts text t f e =
+    record { in_text = omega arith; few = omega arith; fits = f; so_far = λ i. steps (loading (tables_of t.rules.now t.kinds.now t.rights.now (sym e i)) 0) (lines_from text 0) }
 
-module _ (text rules kinds rights : List ℕ) (at taken : ℕ) (c : Counts) (g : Going text rules kinds rights at taken c) where
-  going_on : (rules' kinds' rights' : List ℕ) (c' : Counts) → at < length text → has_room c (line_at text at) ≡ true → length rules' ≡ most_rules * rule_width → length kinds' ≡ most_kinds * kind_width → length rights' ≡ most_rights * right_width
-      → tables_of rules' kinds' rights' c' ≡ with_row (tables_of rules kinds rights c) (line_at text at) → (c'.rules ≤ 512) × (c'.kinds ≤ 128) × (c'.rights ≤ 2048) → Going text rules' kinds' rights' (next_at text at) (taken + 1) c'
-  going_on rules' kinds' rights' c' h room a b d e r =
+-- there is no room for a record where none begins
+past-room : (c : Counts) (text : List ℕ) (at : ℕ) → length text ≤ at → has_room c (line_at text at) ≡ false
+unfolding line_at line_of line_from line_clauses is_quoted unquoted word_of
+past-room c text at h = ap (λ (bytes : List ℕ). has_room c (line_of bytes)) (sym (record_past text at h)) ∙ room_unknown c
+
+module _ (text : List ℕ) (at taken : ℕ) (t : Filled) (g : Going text at taken t) where
+  -- where there is room for a line, a record begins
+  pub room_in : has_room t.counts (line_at text at) ≡ true → at < length text
+  room_in h = go (lt_or_ge at (length text))
+    where
+      go : (at < length text) ⊎ (length text ≤ at) → at < length text
+      go (inl k) = k
+      go (inr k) = absurd (true≢false (sym h ∙ past-room t.counts text at k))
+
+  abbrev size₁ : t.counts.rules * 11 ≤ length t.rules.now
+  size₁ = omega (arith, g.fits.rules_room, g.fits.rules_size)
+
+  abbrev size₂ : t.counts.kinds * 7 ≤ length t.kinds.now
+  size₂ = omega (arith, g.fits.kinds_room, g.fits.kinds_size)
+
+  abbrev size₃ : t.counts.rights * 2 ≤ length t.rights.now
+  size₃ = omega (arith, g.fits.rights_room, g.fits.rights_size)
+
+  -- a record with room is a row more
+  pub going_on : (t' : Filled) (line : Line) (next : ℕ) → line ≡ line_at text at → next ≡ next_at text at → has_room t.counts line ≡ true → Fits t' → tables_in t' ≡ with_row (tables_in t) line → Going text next (taken + 1) t'
+  going_on t' line next e f room fits rows =
+      let here : has_room t.counts (line_at text at) ≡ true = ap (has_room t.counts) (sym e) ∙ room in
+      let inside : at < length text = room_in here in
       record {
-        in_text = next-within text at;
-        few = omega (arith, g.few, next-behind text at h);
-        rules_size = a;
-        kinds_size = b;
-        rights_size = d;
-        rules_room = r.0;
-        kinds_room = r.1;
-        rights_room = r.2;
+        in_text = omega (arith, f, next-within text at);
+        few = omega (arith, f, g.few, next-behind text at inside);
+        fits = fits;
         so_far =
             g.so_far
-            ∙ ap (steps (loading (tables_of rules kinds rights c) taken)) (lines_from_lem text at h)
-            ∙ ap (λ (m : Machine). steps m (lines_from text (next_at text at))) (row-taken rules kinds rights c (omega (arith, g.rules_room, g.rules_size)) (omega (arith, g.kinds_room, g.kinds_size)) (omega (arith, g.rights_room, g.rights_size)) (line_at text at) taken room)
-            ∙ (λ i. steps (loading (sym e i) (sym (add-one taken) i)) (lines_from text (next_at text at)));
+            ∙ ap (steps (loading (tables_in t) taken)) (lines_from_lem text at inside)
+            ∙ ap (λ (m : Machine). steps m (lines_from text (next_at text at))) (row-taken t.rules.now t.kinds.now t.rights.now t.counts size₁ size₂ size₃ (line_at text at) taken here)
+            ∙ (λ i. steps (loading (with_row (tables_in t) (sym e i)) (suc taken)) (lines_from text (sym f i)))
+            ∙ (λ i. steps (loading (sym rows i) (sym (add-one taken) i)) (lines_from text next));
       }
 
-  -- what is loaded is what a machine that an event has reached goes on from
-  loaded : (steps (loading (tables_of rules kinds rights c) taken) (lines_from text at)).written ≡ (steps (running (tables_of rules kinds rights c) (replicate 1602 0) taken []) (lines_from text at)).written → Loads text rules kinds rights (record { at = at; taken = taken; counts = c })
-  loaded e = record { in_text = g.in_text; few = g.few; rules_room = g.rules_room; kinds_room = g.kinds_room; rights_room = g.rights_room; goes_on = ap (λ (m : Machine). m.written) g.so_far ∙ e }
+  -- where there is no room, or no record, what is loaded is what a machine that an event has reached goes on from
+  pub going_stops : has_room t.counts (line_at text at) ≡ false → Loads text t.rules.now t.kinds.now t.rights.now (record { at = at; taken = taken; counts = t.counts })
+  going_stops none =
+      record {
+        in_text = g.in_text;
+        few = g.few;
+        rules_room = g.fits.rules_room;
+        kinds_room = g.fits.kinds_room;
+        rights_room = g.fits.rights_room;
+        goes_on = ap (λ (m : Machine). m.written) g.so_far ∙ go (lt_or_ge at (length text));
+      }
+    where
+      go : (at < length text) ⊎ (length text ≤ at) → (steps (loading (tables_in t) taken) (lines_from text at)).written ≡ (steps (running (tables_in t) (replicate 1602 0) taken []) (lines_from text at)).written
+      go (inl h) =
+          ap (λ (ls : List Line). (steps (loading (tables_in t) taken) ls).written) (lines_from_lem text at h)
+          ∙ events_begin t.rules.now t.kinds.now t.rights.now t.counts size₁ size₂ size₃ (line_at text at) taken (lines_from text (next_at text at)) none
+          ∙ ap (λ (ls : List Line). (steps (running (tables_in t) (replicate 1602 0) taken []) ls).written) (sym (lines_from_lem text at h))
+      go (inr h) =
+          ap (λ (rs : List (List ℕ)). (steps (loading (tables_in t) taken) (map line_of rs)).written) (none_from text at h)
+          ∙ ap (λ (rs : List (List ℕ)). (steps (running (tables_in t) (replicate 1602 0) taken []) (map line_of rs)).written) (sym (none_from text at h))
 
-  pub going_stops : at < length text → has_room c (line_at text at) ≡ false → Loads text rules kinds rights (record { at = at; taken = taken; counts = c })
-  going_stops h room =
-      loaded
-      (ap (λ (ls : List Line). (steps (loading (tables_of rules kinds rights c) taken) ls).written) (lines_from_lem text at h)
-      ∙ events_begin rules kinds rights c (omega (arith, g.rules_room, g.rules_size)) (omega (arith, g.kinds_room, g.kinds_size)) (omega (arith, g.rights_room, g.rights_size)) (line_at text at) taken (lines_from text (next_at text at)) room
-      ∙ ap (λ (ls : List Line). (steps (running (tables_of rules kinds rights c) (replicate 1602 0) taken []) ls).written) (sym (lines_from_lem text at h)))
-
-  pub going_ends : length text ≤ at → Loads text rules kinds rights (record { at = at; taken = taken; counts = c })
-  going_ends h =
-      loaded
-      (ap (λ (rs : List (List ℕ)). (steps (loading (tables_of rules kinds rights c) taken) (map line_of rs)).written) (none_from text at h)
-      ∙ ap (λ (rs : List (List ℕ)). (steps (running (tables_of rules kinds rights c) (replicate 1602 0) taken []) (map line_of rs)).written) (sym (none_from text at h)))
-
--- the same of the line and the place that code has read
-pub going_to : (text rules kinds rights : List ℕ) (at taken : ℕ) (c : Counts) → Going text rules kinds rights at taken c → (rules' kinds' rights' : List ℕ) (c' : Counts) (line : Line) (next : ℕ) → line ≡ line_at text at → next ≡ next_at text at
-    → at < length text → has_room c line ≡ true → length rules' ≡ most_rules * rule_width → length kinds' ≡ most_kinds * kind_width → length rights' ≡ most_rights * right_width
-    → tables_of rules' kinds' rights' c' ≡ with_row (tables_of rules kinds rights c) line → (c'.rules ≤ 512) × (c'.kinds ≤ 128) × (c'.rights ≤ 2048) → Going text rules' kinds' rights' next (taken + 1) c'
-going_to text rules kinds rights at taken c g rules' kinds' rights' c' line next e f h room a b d w r =
-    subst⁻¹ (λ (n : ℕ). Going text rules' kinds' rights' n (taken + 1) c') f
-    (going_on text rules kinds rights at taken c g rules' kinds' rights' c' h (ap (has_room c) (sym e) ∙ room) a b d (w ∙ ap (with_row (tables_of rules kinds rights c)) e) r)
+pub same_loads : (text rules kinds rights : List ℕ) (r : Loaded) → Loads text rules kinds rights r → (rules' kinds' rights' : List ℕ) (r' : Loaded) → rules' ≡ rules → kinds' ≡ kinds → rights' ≡ rights → r' ≡ r → Loads text rules' kinds' rights' r'
+same_loads text rules kinds rights r h rules' kinds' rights' r' a b d e = rw (a, b, d, e) h
 
 pub counted_two : (c : Counts) (text : List ℕ) (at : ℕ) (line : Line) → line ≡ line_at text at → has_room c line ≡ true → 2 ≤ line.count
 unfolding line_at

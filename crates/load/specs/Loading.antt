@@ -4,9 +4,8 @@ use Rattle.model.specs.Limits.{most_rules, rule_width, most_kinds, kind_width, m
 use Rattle.model.specs.Values.{Tables}
 use Rattle.program.specs.Text.{records}
 use Rattle.program.specs.Vocabulary.{rule_word, kind_word, right_word}
-use Rattle.program.specs.Lines.{line_of}
+use Rattle.program.specs.Lines.{Line, line_of}
 use Rattle.program.specs.Program.{Machine, start, steps}
-use Rattle.program.specs.declared.Line.{Line}
 use Rattle.load.specs.declared.Counts.{Counts}
 use Rattle.load.specs.declared.Loaded.{Loaded}
 

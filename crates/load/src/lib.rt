@@ -5,54 +5,36 @@
 
 ghost use Rattle.std.specs.Prelude.{◌≡◌, ◌++◌, ◌+◌, ◌*◌, ◌≤◌, length, take, true};
 ghost use Rattle.model.specs.Limits.{most_rules, rule_width, most_kinds, kind_width, most_rights, right_width};
+ghost use Rattle.program.specs.Said.{line_of_read};
 ghost use Rattle.program.specs.Program.{rule_row, kind_row, right_row, with_row};
-ghost use Rattle.load.specs.Loading.{tables_of, has_room, Loads};
+ghost use Rattle.load.specs.Loading.{has_room, Loads};
+ghost use Rattle.load.specs.Filling.{tables_in, Fits, SameTables};
 
 use model::{KIND_WIDTH, MOST_KINDS, MOST_RIGHTS, MOST_RULES, RIGHT_WIDTH, RULE_WIDTH};
-use program::{KIND_WORD, Line, RIGHT_WORD, RULE_WORD};
+use program::{Line, Word};
+use reader::Reader;
 
-// How many rows each table has so far.
-#[derive(Clone, Copy)]
+// How many rows each table has.
+#[derive(Clone, Copy, Debug, PartialEq, Eq, Default)]
 pub struct Counts {
     pub rules: usize,
     pub kinds: usize,
     pub rights: usize,
 }
 
-// The first `width` numbers of the row behind the first `at` of the table.
-fn append(table: &mut [u16], at: usize, row: [u16; RULE_WIDTH], width: usize)
-    requires { (at + width ≤ length table.old) × (width ≤ 11) }
-    ensures { take (at + width) table.new ≡ take at table.old ++ take width row }
+// One row more, behind the first `rows`.
+fn append<const WIDTH: usize>(table: &mut [u16], rows: usize, row: [u16; WIDTH])
+    requires { rows * WIDTH + WIDTH ≤ length table.old }
+    ensures { take (rows * WIDTH + WIDTH) table.new ≡ take (rows * WIDTH) table.old ++ row.entry }
 {
-    let mut i: usize = 0;
-    while i < width {
-        table[at + i] = row[i];
-        i += 1;
-    }
+    let at = rows * WIDTH;
+    table[at..at + WIDTH].copy_from_slice(&row);
 }
 
-// There is room for the line's row; false also for a line that is none of the policy.
-fn has_room(counts: Counts, line: Line) -> bool
-    ensures { result ≡ has_room counts line }
-{
-    let word = line.word;
-    if word == RULE_WORD {
-        return counts.rules < MOST_RULES;
-    }
-    if word == KIND_WORD {
-        return counts.kinds < MOST_KINDS;
-    }
-    if word == RIGHT_WORD {
-        return counts.rights < MOST_RIGHTS;
-    }
-    false
-}
-
-// The line as a row of its table, in the first numbers. The record has target and m, or appointer role and mode; n and s are how many
-// numbers follow these.
+// The line as a row of its table. The record has target and m, or appointer role and mode; n and s are how many numbers follow these.
 fn rule_row(line: Line) -> [u16; RULE_WIDTH]
     requires { 2 ≤ line.count }
-    ensures { take 11 result ≡ rule_row line }
+    ensures { result ≡ rule_row (line_of_read line) }
 {
     let n = line.numbers;
     let count = line.count - 2;
@@ -61,68 +43,73 @@ fn rule_row(line: Line) -> [u16; RULE_WIDTH]
     ]
 }
 
-fn kind_row(line: Line) -> [u16; RULE_WIDTH]
+fn kind_row(line: Line) -> [u16; KIND_WIDTH]
     requires { 2 ≤ line.count }
-    ensures { take 7 result ≡ kind_row line }
+    ensures { result ≡ kind_row (line_of_read line) }
 {
     let n = line.numbers;
     let count = line.count - 2;
-    [n[0], n[1], count, n[2], n[3], n[4], n[5], 0, 0, 0, 0]
+    [n[0], n[1], count, n[2], n[3], n[4], n[5]]
 }
 
-fn right_row(line: Line) -> [u16; RULE_WIDTH]
-    ensures { take 2 result ≡ right_row line }
+fn right_row(line: Line) -> [u16; RIGHT_WIDTH]
+    ensures { result ≡ right_row (line_of_read line) }
 {
     let n = line.numbers;
-    [n[0], n[1], 0, 0, 0, 0, 0, 0, 0, 0, 0]
+    [n[0], n[1]]
 }
 
-// One row more.
-fn take_row(
-    rules: &mut [u16],
-    kinds: &mut [u16],
-    rights: &mut [u16],
+// The tables that are being filled, and how many rows each has so far.
+#[derive(Drop)]
+struct Tables<'a> {
+    rules: &'a mut [u16],
+    kinds: &'a mut [u16],
+    rights: &'a mut [u16],
     counts: Counts,
-    line: Line,
-) -> Counts
-    requires { (length rules.old ≡ most_rules * rule_width) × (length kinds.old ≡ most_kinds * kind_width) × (length rights.old ≡ most_rights * right_width) × (has_room counts line ≡ true) × (2 ≤ line.count) × (counts.rules ≤ most_rules) × (counts.kinds ≤ most_kinds) × (counts.rights ≤ most_rights) }
-    ensures rows { tables_of rules.new kinds.new rights.new result ≡ with_row (tables_of rules.old kinds.old rights.old counts) line }
-    ensures room { (result.rules ≤ most_rules) × (result.kinds ≤ most_kinds) × (result.rights ≤ most_rights) }
-{
-    let rule_count = counts.rules;
-    let kind_count = counts.kinds;
-    let right_count = counts.rights;
-    if line.word == RULE_WORD {
-        append(rules, rule_count * RULE_WIDTH, rule_row(line), RULE_WIDTH);
-        return Counts {
-            rules: rule_count + 1,
-            kinds: kind_count,
-            rights: right_count,
-        };
+}
+
+impl<'a> Tables<'a> {
+    // There is room for the line's row; false also for a line that is none of the policy.
+    #[tactic(auto, unfolding(crate::specs::Loading::has_room))]
+    fn has_room(&self, line: Line) -> bool
+        ensures { result ≡ has_room self.now.counts (line_of_read line) }
+    {
+        match line.word {
+            Word::Rule => self.counts.rules < MOST_RULES,
+            Word::Kind => self.counts.kinds < MOST_KINDS,
+            Word::Right => self.counts.rights < MOST_RIGHTS,
+            _ => false,
+        }
     }
-    if line.word == KIND_WORD {
-        append(kinds, kind_count * KIND_WIDTH, kind_row(line), KIND_WIDTH);
-        return Counts {
-            rules: rule_count,
-            kinds: kind_count + 1,
-            rights: right_count,
-        };
-    }
-    append(
-        rights,
-        right_count * RIGHT_WIDTH,
-        right_row(line),
-        RIGHT_WIDTH,
-    );
-    Counts {
-        rules: rule_count,
-        kinds: kind_count,
-        rights: right_count + 1,
+
+    // One row more.
+    fn take(&mut self, line: Line)
+        requires fits { Fits self.old }
+        requires room { has_room self.old.counts (line_of_read line) ≡ true }
+        requires counted { 2 ≤ line.count }
+        ensures same_tables { SameTables self.old self.new }
+        ensures fits { Fits self.new }
+        ensures rows { tables_in self.new ≡ with_row (tables_in self.old) (line_of_read line) }
+    {
+        match line.word {
+            Word::Rule => {
+                append(self.rules, self.counts.rules, rule_row(line));
+                self.counts.rules += 1;
+            }
+            Word::Kind => {
+                append(self.kinds, self.counts.kinds, kind_row(line));
+                self.counts.kinds += 1;
+            }
+            _ => {
+                append(self.rights, self.counts.rights, right_row(line));
+                self.counts.rights += 1;
+            }
+        }
     }
 }
 
 // Where the policy ends, and what it has come to.
-#[derive(Clone, Copy)]
+#[derive(Clone, Copy, Debug, PartialEq, Eq)]
 pub struct Loaded {
     pub at: usize,
     pub taken: usize,
@@ -134,21 +121,24 @@ pub fn load(text: &[u8], rules: &mut [u16], kinds: &mut [u16], rights: &mut [u16
     requires { (length rules.old ≡ most_rules * rule_width) × (length kinds.old ≡ most_kinds * kind_width) × (length rights.old ≡ most_rights * right_width) }
     ensures { Loads text.now rules.new kinds.new rights.new result }
 {
-    let mut at: usize = 0;
-    let mut taken: usize = 0;
-    let mut counts = Counts {
-        rules: 0,
-        kinds: 0,
-        rights: 0,
+    let mut tables = Tables {
+        rules,
+        kinds,
+        rights,
+        counts: Counts::default(),
     };
-    while at < text.len() {
-        let line = reader::line_from(text, at);
-        if !has_room(counts, line) {
-            return Loaded { at, taken, counts };
-        }
-        counts = take_row(rules, kinds, rights, counts, line);
+    let mut reader = Reader::new(text, 0);
+    let mut taken = 0;
+    while let Some(line) = reader.line()
+        && tables.has_room(line)
+    {
+        tables.take(line);
         taken += 1;
-        at = reader::next_from(text, at);
+        reader = reader.moved();
     }
-    Loaded { at, taken, counts }
+    Loaded {
+        at: reader.at,
+        taken,
+        counts: tables.counts,
+    }
 }

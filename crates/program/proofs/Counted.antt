@@ -11,8 +11,7 @@ use Rattle.model.specs.Lists.{every, filled_to}
 use Rattle.model.proofs.Tests.{is_true, of_true, each}
 use Rattle.program.specs.Text.{value_of, said}
 use Rattle.program.specs.Vocabulary.{words, word_of, numbered}
-use Rattle.program.specs.Lines.{most_numbers, unknown, line_clauses, line_from, line_of_fields, line_of}
-use Rattle.program.specs.declared.Line.{Line}
+use Rattle.program.specs.Lines.{Line, most_numbers, unknown, line_clauses, line_from, line_of_fields, line_of}
 
 abbrev Counted : Line → Type 0
 Counted l = l.word < words → ((numbered l.word).least ≤ l.count) × (l.count ≤ (numbered l.word).greatest)

@@ -12,8 +12,7 @@ use Rattle.model.specs.Lists.{every, any, all, filled_to}
 use Rattle.model.proofs.Tests.{is_true, of_true, and_left, and_right, each, all_of, at_place, first-place, found-any}
 use Rattle.program.specs.Text.{before, fields, is_quoted, unquoted, said, is_number, value_of}
 use Rattle.program.specs.Vocabulary.{Word, vocabulary, words, policy_words, same, word_of, numbered, ◌with◌to◌}
-use Rattle.program.specs.Lines.{most_numbers, unknown, line_clauses, line_from, line_of_fields, line_of}
-use Rattle.program.specs.declared.Line.{Line}
+use Rattle.program.specs.Lines.{Line, most_numbers, unknown, line_clauses, line_from, line_of_fields, line_of}
 
 -- the fields' bytes, and one for each field: the comma behind it, or the record's end
 abbrev extent : List (List ℕ) → ℕ

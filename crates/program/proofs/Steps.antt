@@ -10,7 +10,7 @@ use Rattle.model.specs.Lists.{any}
 use Rattle.model.specs.Calls.{answer}
 use Rattle.model.proofs.Tests.{or_later}
 use Rattle.program.specs.Program.{Machine, bad_record, is_policy, line_call, is_full, bad_ways, is_bad, after_bad, after_policy, after_event, step, steps}
-use Rattle.program.specs.declared.Line.{Line}
+use Rattle.program.specs.Lines.{Line}
 
 -- ── a stopped machine stays ──
 

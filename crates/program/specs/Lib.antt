@@ -2,3 +2,4 @@ pub mod Text
 pub mod Vocabulary
 pub mod Lines
 pub mod Program
+pub mod Said

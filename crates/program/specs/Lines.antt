@@ -4,11 +4,16 @@ use Rattle.std.specs.Prelude.{ℕ, Bool, cond, List, [], ◌∷◌, map, eqb, lt
 use Rattle.model.specs.Lists.{every, all, filled_to}
 use Rattle.program.specs.Text.{is_number, value_of, said}
 use Rattle.program.specs.Vocabulary.{words, word_of, numbered}
-use Rattle.program.specs.declared.Line.{Line}
 
 -- a rule's target, its m and its eight conditions: no word takes more
 abbrev pub most_numbers : ℕ
 most_numbers = 10
+
+-- a word by its number, how many numbers follow, and these, those past the count being 0
+pub record Line : Type 0 where
+  pub word : ℕ
+  pub count : ℕ
+  pub numbers : List ℕ
 
 abbrev pub unknown : Line
 unknown = record { word = words; count = 0; numbers = replicate most_numbers 0 }

@@ -8,8 +8,7 @@ use Rattle.model.specs.Outcome.{Outcome}
 use Rattle.model.specs.Calls.{Call, fresh, activate, appoint, revoke, withdraw, environment, logout, invoke, effective, nothing, answer}
 use Rattle.program.specs.Text.{ascii, comma, cr, lf, records, decimal}
 use Rattle.program.specs.Vocabulary.{rule_word, kind_word, right_word, policy_words}
-use Rattle.program.specs.Lines.{is_unknown, line_of}
-use Rattle.program.specs.declared.Line.{Line}
+use Rattle.program.specs.Lines.{Line, is_unknown, line_of}
 
 -- the policy and the state so far, whether an event has come, how many records have been taken, what is written, and whether a bad
 -- record has stopped it

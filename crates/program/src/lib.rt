@@ -1,44 +1,47 @@
-// The value that contracts name, and the numbers that code goes by. What they mean stands in specs/.
+// The words that open a record, a record that is read, and the numbers that code goes by. What they mean stands in specs/.
 
 #![tactic(auto)]
 
-// How many words the vocabulary has, and how many of them, the first, state the policy.
-pub const WORDS: u16 = 11;
+ghost use Rattle.std.specs.Prelude.{◌≡◌, ltb};
+ghost use Rattle.program.specs.Vocabulary.{policy_words};
+ghost use Rattle.program.specs.Said.{number_of};
 
-pub const POLICY_WORDS: u16 = 3;
+// "Eleven words open a record": each is named as it is spelled.
+#[derive(Clone, Copy, Debug, PartialEq, Eq)]
+pub enum Word {
+    Rule,
+    Kind,
+    Right,
+    Activate,
+    Appoint,
+    Revoke,
+    Withdraw,
+    Env,
+    Logout,
+    Invoke,
+    Effective,
+}
 
-// The words by their numbers. The last, `effective`, has no name: where code tells words apart, it is what is left.
-pub const RULE_WORD: u16 = 0;
-
-pub const KIND_WORD: u16 = 1;
-
-pub const RIGHT_WORD: u16 = 2;
-
-pub const ACTIVATE_WORD: u16 = 3;
-
-pub const APPOINT_WORD: u16 = 4;
-
-pub const REVOKE_WORD: u16 = 5;
-
-pub const WITHDRAW_WORD: u16 = 6;
-
-pub const ENV_WORD: u16 = 7;
-
-pub const LOGOUT_WORD: u16 = 8;
-
-pub const INVOKE_WORD: u16 = 9;
+impl Word {
+    // The word states the policy; each other is an event's.
+    pub fn is_policy(self) -> bool
+        ensures { result ≡ ltb (number_of self) policy_words }
+    {
+        matches!(self, Word::Rule | Word::Kind | Word::Right)
+    }
+}
 
 // How many numbers a record may have behind its word.
-pub const MOST_NUMBERS: u16 = 10;
+pub const MOST_NUMBERS: usize = 10;
 
 // The byte of the digit 0; those of the other digits follow it.
-pub const DIGIT_ZERO: u8 = 48;
+pub const DIGIT_ZERO: u8 = b'0';
 
-// A record of the program, read: its word by the word's number, how many numbers follow, and these, those past the count being 0.
-// A record that is none of the vocabulary's has the number past the last word, and zeros.
-#[derive(Clone, Copy)]
+// A record of the program, read: its word, how many numbers follow, and these, those past the count being 0. A record that is none of
+// the vocabulary's is no line.
+#[derive(Clone, Copy, Debug, PartialEq, Eq)]
 pub struct Line {
-    pub word: u16,
+    pub word: Word,
     pub count: u16,
-    pub numbers: [u16; MOST_NUMBERS as usize],
+    pub numbers: [u16; MOST_NUMBERS],
 }

@@ -2,8 +2,7 @@
 -- there is empty, and the reader stands at the end.
 use Rattle.std.specs.Prelude.{ℕ, ◌+◌, min, List, [], length, get_or}
 use Rattle.program.specs.Text.{said}
-use Rattle.program.specs.Lines.{line_of}
-use Rattle.program.specs.declared.Line.{Line}
+use Rattle.program.specs.Lines.{Line, line_of}
 use Rattle.text.specs.Places.{part, record_end}
 
 -- the bytes of the record that begins at the place

@@ -12,10 +12,9 @@ use Rattle.model.specs.Lists.{every, all, filled_to}
 use Rattle.model.proofs.Tests.{all_append}
 use Rattle.program.specs.Text.{unquoted, is_number, value_of}
 use Rattle.program.specs.Vocabulary.{words, word_of, numbered}
-use Rattle.program.specs.Lines.{most_numbers, unknown, line_clauses, line_from, line_of_fields, line_of}
-use Rattle.program.specs.declared.Line.{Line}
+use Rattle.program.specs.Lines.{Line, most_numbers, unknown, line_clauses, line_from, line_of_fields, line_of}
 use Rattle.text.specs.Places.{part, field_end, fields_after, said_behind, number_of}
-use Rattle.text.specs.declared.Number.TheVariants.{Value, Not}
+use Rattle.std.specs.Prelude.{Some, None}
 use Rattle.text.proofs.Ends.{fields-next, said-next, said_end}
 use Rattle.text.proofs.Counts.{greatest-within}
 
@@ -31,19 +30,19 @@ pub taken_none : (fields : List (List ℕ)) → Taken fields fields 0 (replicate
 taken_none fields = record { read = []; whole = refl; good = refl; counted = refl; kept = refl }
 
 -- what a field's number says of the field
-is_number_lem : (f : List ℕ) (v : ℕ) → number_of f ≡ Value v → (is_number f ≡ true) × (value_of f ≡ v)
+is_number_lem : (f : List ℕ) (v : ℕ) → number_of f ≡ Some v → (is_number f ≡ true) × (value_of f ≡ v)
 unfolding number_of
 is_number_lem f v e = go (is_number f) refl e
   where
-    go : (b : Bool) → is_number f ≡ b → cond b (Value (value_of f)) Not ≡ Value v → (is_number f ≡ true) × (value_of f ≡ v)
+    go : (b : Bool) → is_number f ≡ b → cond b (Some (value_of f)) None ≡ Some v → (is_number f ≡ true) × (value_of f ≡ v)
     go true p q = (p, (cc))
     go false p q = absurd (let z : ◌≡◌ {A = ℕ} 0 1 = cc in omega arith)
 
-is_not : (f : List ℕ) → number_of f ≡ Not → is_number f ≡ false
+is_not : (f : List ℕ) → number_of f ≡ None → is_number f ≡ false
 unfolding number_of
 is_not f e = go (is_number f) refl e
   where
-    go : (b : Bool) → is_number f ≡ b → cond b (Value (value_of f)) Not ≡ Not → is_number f ≡ false
+    go : (b : Bool) → is_number f ≡ b → cond b (Some (value_of f)) None ≡ None → is_number f ≡ false
     go true p q = absurd (let z : ◌≡◌ {A = ℕ} 0 1 = cc in omega arith)
     go false p q = p
 
@@ -59,7 +58,7 @@ filled_more xs v h =
     ∙ ap (λ (k : ℕ). (xs ++ (v ∷ [])) ++ replicate k 0) q
 
 module _ (fields : List (List ℕ)) (f : List ℕ) (later : List (List ℕ)) (count : ℕ) (numbers : List ℕ) (t : Taken fields (f ∷ later) count numbers) where
-  taken_more : (v : ℕ) → count < most_numbers → number_of f ≡ Value v → Taken fields later (count + 1) (set numbers count v)
+  taken_more : (v : ℕ) → count < most_numbers → number_of f ≡ Some v → Taken fields later (count + 1) (set numbers count v)
   taken_more v h e =
       let done : List (List ℕ) = t.read in
       let size : length (map value_of done) ≡ count = length-map done value_of ∙ t.counted in
@@ -95,10 +94,10 @@ module _ (bytes : List ℕ) (fields : List (List ℕ)) (place count : ℕ) (numb
     said_is : unquoted (part bytes (place + 1) (field_end bytes (place + 1))) ≡ f
     said_is = ap (λ (e : ℕ). unquoted (part bytes (place + 1) e)) (sym there) ∙ sym is
 
-    pub one_more : (v : ℕ) → count < most_numbers → number_of f ≡ Value v → Taken fields (said_behind bytes end) (count + 1) (set numbers count v)
+    pub one_more : (v : ℕ) → count < most_numbers → number_of f ≡ Some v → Taken fields (said_behind bytes end) (count + 1) (set numbers count v)
     one_more v room e = subst (λ (p : ℕ). Taken fields (said_behind bytes p) (count + 1) (set numbers count v)) (sym there) (taken_more fields _ _ count numbers opened v room (ap number_of said_is ∙ e))
 
-    pub one_not : number_of f ≡ Not → all is_number fields ≡ false
+    pub one_not : number_of f ≡ None → all is_number fields ≡ false
     one_not e = not_all fields _ _ count numbers opened (ap is_number said_is ∙ is_not f e)
 
 pub none_left : (bytes : List ℕ) (fields : List (List ℕ)) (place count : ℕ) (numbers : List ℕ) → Taken fields (said_behind bytes place) count numbers → place ≤ length bytes → length bytes ≤ place → Taken fields [] count numbers

@@ -1,22 +1,22 @@
 -- The laws by which the scans for an end are proved: a byte passed, a byte found, the text's end. And that they cut a text as the
 -- outline does: a record and the records behind it, a field and the fields behind it.
 use Prim.Native.Nat.{ℕ, suc, ◌+◌, ◌-◌, ◌<◌, ◌≤◌}
-use mathlib.Core.Path.{◌≡◌, refl, sym, ap, ◌∙◌}
-use mathlib.Core.Bool.{Bool, true, false, ◌&&◌, cond}
+use mathlib.Core.Path.{◌≡◌, refl, sym, ap, subst, ◌∙◌}
+use mathlib.Core.Bool.{Bool, true, false, ◌&&◌, cond, and-true}
+use mathlib.Core.Logic.{◌⊎◌, ◌≢◌, inl, inr}
 use mathlib.Core.List.{List, [], ◌∷◌, map}
 use native.Mathlib.Omega.{arith}
-use native.Mathlib.Nat.{add-zero}
-use native.Mathlib.Numerals.{add-one}
-use lib.Dec.{eqb}
-use borrow.Author.Tests.{eq-eqb, ne_eqb}
-use lib.ListN.{length, get_or, take, drop, length-drop, get_or-eq_default}
-use lib.Seq.{drop-cons, drop-drop, drop-length, get_or-drop}
+use borrow.Author.Tests.{ltb-false, eq-eqb, ne_eqb}
+use native.Mathlib.Numerals.{add-one, one-add}
+use lib.Dec.{eqb, ltb}
+use lib.ListN.{length, get_or, take, drop, length-drop}
+use lib.Seq.{take_all, drop-cons, drop-drop, drop-length}
+use Rattle.std.specs.Prelude.{Option, Some, None, MatchOption}
+use Rattle.std.specs.List.{starts_with, position_or_len}
+use Rattle.std.proofs.lemmas.List.Recursion.{is_position_or_len}
 use Rattle.program.specs.Text.{before, records, fields, unquoted}
+use Rattle.model.proofs.Tests.{eq_or_ne}
 use Rattle.text.specs.Places.{part, Within, at_crlf, at_comma, bytes_before, end_from, record_end, field_end, fields_after, said_behind}
-
--- what is left begins with the byte at the place
-pub left-first : (s : List ℕ) (i : ℕ) → get_or (drop i s) 0 0 ≡ get_or s i 0
-left-first s i = get_or-drop i s 0 0 ∙ ap (λ (n : ℕ). get_or s n 0) (add-zero i)
 
 module _ (test : List ℕ → Bool) where
   passed : (l : List ℕ) (b : ℕ) (t : List ℕ) → l ≡ b ∷ t → test l ≡ false → bytes_before test l ≡ suc (bytes_before test t)
@@ -49,25 +49,51 @@ module _ (test : List ℕ → Bool) where
   pub end_past : (s : List ℕ) (i : ℕ) → i ≤ length s → length s ≤ i → end_from test s i ≡ i
   end_past s i h l = let w = end_within s i (end_from test s i) refl h in omega arith
 
--- ── a CRLF, by its two bytes ──
+-- ── a CRLF by its two bytes, and a comma by how many bytes stand before it ──
 
-module _ (s : List ℕ) (i : ℕ) where
-  crlf_at : at_crlf (drop i s) ≡ (eqb (get_or s i 0) 13 && eqb (get_or s (i + 1) 0) 10)
-  unfolding at_crlf
-  crlf_at = rw (left-first s i, get_or-drop i s 1 0) refl
+-- all that is left from a place on
+pub left_is : (s : List ℕ) (i : ℕ) → take (length s - i) (drop i s) ≡ drop i s
+left_is s i = take_all (length s - i) (drop i s) (omega (arith, length-drop i s))
 
-  pub no-cr : (get_or s i 0 ≡ 13 → ⊥) → at_crlf (drop i s) ≡ false
-  no-cr e = crlf_at ∙ simp (ne_eqb (get_or s i 0) 13 e)
+turned : (a b : ℕ) → eqb a b ≡ eqb b a
+turned a b = go (eq_or_ne a b)
+  where
+    go : (a ≡ b) ⊎ (a ≢ b) → eqb a b ≡ eqb b a
+    go (inl e) = eq-eqb a b e ∙ sym (eq-eqb b a (sym e))
+    go (inr e) = ne_eqb a b e ∙ sym (ne_eqb b a (λ q. e (sym q)))
 
-  pub cr_then : get_or s i 0 ≡ 13 → at_crlf (drop i s) ≡ eqb (get_or s (i + 1) 0) 10
-  cr_then e = crlf_at ∙ simp (eq-eqb (get_or s i 0) 13 e)
+pub crlf_starts : (l : List ℕ) → starts_with eqb l (13 ∷ 10 ∷ []) ≡ at_crlf l
+unfolding at_crlf
+crlf_starts [] = refl
+crlf_starts (a ∷ []) = ap (λ (x : Bool). x && false) (turned 13 a)
+crlf_starts (a ∷ b ∷ l) = λ i. turned 13 a i && (and-true (eqb 10 b) ∙ turned 10 b) i
 
-  pub cr_last : get_or s i 0 ≡ 13 → length s ≤ i + 1 → at_crlf (drop i s) ≡ false
-  cr_last e h = cr_then e ∙ ap (λ (b : ℕ). eqb b 10) (get_or-eq_default s 0 h)
-
-pub comma-at : (s : List ℕ) (i : ℕ) → at_comma (drop i s) ≡ eqb (get_or s i 0) 44
+comma_before : (l : List ℕ) → bytes_before at_comma l ≡ position_or_len (λ (b : ℕ). eqb b 44) l
 unfolding at_comma
-comma-at s i = ap (λ (b : ℕ). eqb b 44) (left-first s i)
+comma_before l = is_position_or_len (bytes_before at_comma) (λ (b : ℕ). eqb b 44) refl (λ b m. ap (cond (eqb b 44) 0) (sym (one-add (bytes_before at_comma m)))) l
+
+-- the first comma of what is left, or the end where there is none
+pub comma_found : (s : List ℕ) (from : ℕ) (left : List ℕ) (r : Option ℕ) (end : ℕ) → from ≤ length s → left ≡ drop from s
+    → r ≡ cond (ltb (position_or_len (λ (b : ℕ). eqb b 44) left) (length left)) (Some (position_or_len (λ (b : ℕ). eqb b 44) left)) None
+    → MatchOption r (end ≡ length s) (λ n. end ≡ from + n) → end ≡ field_end s from
+unfolding field_end
+comma_found s from left r end h l e m = go (ltb n (length left)) refl
+  where
+    n : ℕ
+    n = position_or_len (λ (b : ℕ). eqb b 44) left
+
+    is : bytes_before at_comma (drop from s) ≡ n
+    is = comma_before (drop from s) ∙ ap (position_or_len (λ (b : ℕ). eqb b 44)) (sym l)
+
+    go : (b : Bool) → ltb n (length left) ≡ b → end ≡ from + bytes_before at_comma (drop from s)
+    go true q =
+        let found : end ≡ from + n = subst (λ (o : Option ℕ). MatchOption o (end ≡ length s) (λ k. end ≡ from + k)) (e ∙ ap (λ (x : Bool). cond x (Some n) None) q) m in
+        omega (arith, found, is)
+    go false q =
+        let none : end ≡ length s = subst (λ (o : Option ℕ). MatchOption o (end ≡ length s) (λ k. end ≡ from + k)) (e ∙ ap (λ (x : Bool). cond x (Some n) None) q) m in
+        let few = before_le at_comma (drop from s) in
+        let size = ap length l in
+        omega (arith, none, is, few, size, ltb-false n (length left) q, length-drop from s)
 
 -- ── how the ends cut a text, and a record ──
 

@@ -1,9 +1,7 @@
 -- A text by its places, as code reads it: where a record and a field end, the bytes between two places, and a field's number.
-use Rattle.std.specs.Prelude.{ℕ, suc, ◌+◌, ◌-◌, ◌≤◌, Bool, ◌&&◌, cond, List, [], ◌∷◌, map, eqb, leb, length, get_or, take, drop}
+use Rattle.std.specs.Prelude.{ℕ, suc, ◌+◌, ◌-◌, ◌≤◌, Bool, ◌&&◌, cond, List, [], ◌∷◌, map, eqb, leb, length, get_or, take, drop, Option, Some, None}
 use Rattle.model.specs.Lists.{all}
 use Rattle.program.specs.Text.{comma, cr, lf, fields, unquoted, is_digit, value_behind, value_of, is_number}
-use Rattle.text.specs.declared.Number.{Number}
-use Rattle.text.specs.declared.Number.TheVariants.{Value, Not}
 
 -- the bytes from a place up to another
 abbrev pub part : List ℕ → ℕ → ℕ → List ℕ
@@ -48,10 +46,10 @@ unfoldable pub said_behind : List ℕ → ℕ → List (List ℕ)
 said_behind bytes place = map unquoted (fields_after (drop place bytes))
 
 -- the number of a field, if it is one
-unfoldable pub number_of : List ℕ → Number
-number_of field = cond (is_number field) (Value (value_of field)) Not
+unfoldable pub number_of : List ℕ → Option ℕ
+number_of field = cond (is_number field) (Some (value_of field)) None
 
 -- the number that digits write behind those that write `value`, if they are digits and it is not above 65,535; leading zeros are
 -- not looked at
-unfoldable pub written_behind : ℕ → List ℕ → Number
-written_behind value field = cond (all is_digit field && leb (value_behind value field) 65535) (Value (value_behind value field)) Not
+unfoldable pub written_behind : ℕ → List ℕ → Option ℕ
+written_behind value field = cond (all is_digit field && leb (value_behind value field) 65535) (Some (value_behind value field)) None

@@ -1,12 +1,13 @@
 -- Writes one behind the other are one write.
-use Prim.Native.Nat.{ℕ, ◌+◌, ◌-◌, ◌<◌, ◌≤◌}
+use Prim.Native.Nat.{ℕ, ◌+◌, ◌-◌, ◌≤◌}
 use mathlib.Core.Path.{◌≡◌, refl, sym, ap, subst, ◌∙◌}
-use mathlib.Core.List.{List, [], ◌∷◌, ◌++◌, append_assoc, append-nil}
+use mathlib.Core.List.{List, [], ◌++◌, append_assoc, append-nil}
 use native.Mathlib.Omega.{arith}
 use native.Mathlib.Nat.{add-zero}
-use native.Mathlib.Numerals.{add-one}
-use lib.ListN.{length, get_or, take, drop, set, length-append, length-set}
-use lib.Seq.{take_all, take-suc, length-take-le, take-suc-set, drop-set-lt, drop-drop}
+use lib.ListN.{length-drop, length, take, drop, length-append}
+use lib.Seq.{length-take-le, drop-drop}
+use borrow.Rule.Slice.PartMut.{put_mid, same_len_mid}
+use Rattle.std.proofs.lemmas.Slice.{take-put_mid, drop-put_mid}
 use Rattle.writer.specs.Writing.{Wrote}
 
 pub wrote_none : (out : List ℕ) (at : ℕ) → Wrote out out at [] at
@@ -15,13 +16,15 @@ wrote_none out at = record { size = refl; place = sym (add-zero at); front = sym
 pub wrote_same : (out out' : List ℕ) (at : ℕ) (xs ys : List ℕ) (next : ℕ) → xs ≡ ys → Wrote out out' at xs next → Wrote out out' at ys next
 wrote_same out out' at xs ys next e w = subst (λ (bytes : List ℕ). Wrote out out' at bytes next) e w
 
-pub wrote_byte : (out : List ℕ) (at byte : ℕ) → at < length out → Wrote out (set out at byte) at (byte ∷ []) (at + 1)
-wrote_byte out at byte h =
+-- the bytes copied over as many of what is lent
+pub wrote_over : (out bytes : List ℕ) (at k : ℕ) (ys : List ℕ) → k ≡ length bytes → ys ≡ bytes → at + length bytes ≤ length out → Wrote out (put_mid at k out ys) at bytes (at + length bytes)
+wrote_over out bytes at k ys n e h =
+    let size : length ys ≡ length bytes = ap length e in
     record {
-      size = length-set out at byte;
+      size = same_len_mid at k out ys (size ∙ sym (length-take-le (length bytes) (drop at out) (simp length-drop (omega arith))) ∙ ap (λ (m : ℕ). length (take m (drop at out))) (sym n));
       place = refl;
-      front = rw add-one (take-suc-set out at byte h);
-      behind = drop-set-lt (at + 1) out at byte (omega arith);
+      front = take-put_mid at k out ys (at + length bytes) (omega (arith, size)) (omega arith) ∙ ap (λ (l : List ℕ). take at out ++ l) e;
+      behind = drop-put_mid at k out ys (at + length bytes) (omega arith) (omega arith) (size ∙ sym n);
     }
 
 pub wrote_then : (out out' out'' : List ℕ) (at : ℕ) (xs : List ℕ) (next : ℕ) (ys : List ℕ) (last : ℕ) → Wrote out out' at xs next → Wrote out' out'' next ys last → Wrote out out'' at (xs ++ ys) last
@@ -43,14 +46,3 @@ wrote_then out out' out'' at xs next ys last w v =
         ∙ ap (drop (last - next)) w.behind
         ∙ drop-drop (last - next) next out
         ∙ ap (λ (n : ℕ). drop n out) far
-
--- the first bytes of those that are to be written, and the byte behind them
-module _ (out out' : List ℕ) (at : ℕ) (bytes : List ℕ) (i place : ℕ) (w : Wrote out out' at (take i bytes) place) where
-  pub wrote_place : i ≤ length bytes → place ≡ at + i
-  wrote_place h = w.place ∙ ap (λ (n : ℕ). at + n) (length-take-le i bytes h)
-
-  pub wrote_more : (out'' : List ℕ) (next : ℕ) → i < length bytes → Wrote out' out'' place (get_or bytes i 0 ∷ []) next → Wrote out out'' at (take (i + 1) bytes) next
-  wrote_more out'' next h v = rw (add-one, take-suc bytes i 0 h) (wrote_then out out' out'' at (take i bytes) place (get_or bytes i 0 ∷ []) next w v)
-
-  pub wrote_all : length bytes ≤ i → Wrote out out' at bytes place
-  wrote_all h = rw (take_all i bytes h) at w

@@ -1,18 +1,13 @@
 -- How long what is written can be.
-use Prim.Native.Nat.{ℕ, suc, ◌+◌, ◌/◌, ◌%◌, ◌<◌, ◌≤◌}
-use mathlib.Core.Path.{◌≡◌, ap, ◌∙◌}
+use Prim.Native.Nat.{ℕ, suc, ◌/◌, ◌<◌, ◌≤◌}
+use mathlib.Core.Path.{ap}
 use mathlib.Core.Logic.{◌⊎◌, inl, inr}
-use mathlib.Core.List.{[], ◌∷◌}
 use native.Mathlib.Omega.{arith}
 use lib.ListN.{length, length-append}
 use Rattle.model.proofs.Tests.{lt_or_ge}
 use Rattle.program.specs.Text.{decimal}
 use Rattle.program.specs.Program.{answer_record, bad_record}
-use Rattle.writer.proofs.Decimals.{decimal_digit, decimal_digits}
-
--- one digit more than the tenth part has
-pub decimal_longer : (n : ℕ) → 10 ≤ n → length (decimal n) ≡ length (decimal (n / 10)) + 1
-decimal_longer n h = ap length (decimal_digits n h) ∙ length-append (decimal (n / 10)) ((48 + n % 10) ∷ [])
+use Rattle.writer.proofs.Decimals.{decimal_digit, decimal_longer}
 
 one_more : (most n : ℕ) → length (decimal (n / 10)) ≤ most → length (decimal n) ≤ suc most
 one_more most n l = go (lt_or_ge n 10)

@@ -1,8 +1,9 @@
-// Writing what the program answers into a lent slice of bytes, at a place; each function returns the place behind what it wrote.
+// Writing what the program answers into lent bytes.
 
 #![tactic(auto)]
 
-ghost use Rattle.std.specs.Prelude.{[], ◌∷◌, ◌+◌, ◌<◌, ◌≤◌, length};
+ghost use Rattle.std.specs.Prelude.{◌≡◌, [], ◌∷◌, ◌+◌, ◌<◌, ◌≤◌, length};
+ghost use Rattle.model.specs.Answered.{code, second};
 ghost use Rattle.program.specs.Text.{cr, lf, decimal};
 ghost use Rattle.program.specs.Program.{answer_record, bad_record};
 ghost use Rattle.writer.specs.Writing.{Wrote};
@@ -10,64 +11,75 @@ ghost use Rattle.writer.specs.Writing.{Wrote};
 use model::Answer;
 use program::DIGIT_ZERO;
 
-fn write_byte(out: &mut [u8], at: usize, byte: u8) -> usize
-    requires { at < length out.old }
-    ensures { Wrote out.old out.new at (byte ∷ []) result }
-{
-    out[at] = byte;
-    at + 1
+// The bytes that are lent, and the place behind what is written.
+#[derive(Drop)]
+pub struct Writer<'a> {
+    pub out: &'a mut [u8],
+    pub at: usize,
 }
 
-fn write_bytes(out: &mut [u8], at: usize, bytes: &[u8]) -> usize
-    requires { at + length bytes.now ≤ length out.old }
-    ensures { Wrote out.old out.new at bytes.now result }
-{
-    let mut place = at;
-    let mut i = 0;
-    while i < bytes.len() {
-        place = write_byte(out, place, bytes[i]);
-        i += 1;
+impl<'a> Writer<'a> {
+    pub fn new(out: &'a mut [u8]) -> Writer<'a>
+        ensures same_bytes { result.out.ghost_name ≡ out.entry.ghost_name }
+        ensures start { (result.out.now ≡ out.old) × (result.at ≡ 0) }
+    {
+        Writer { out, at: 0 }
     }
-    place
-}
 
-// A digit, or the digits of the tenth part and a digit.
-fn write_decimal(out: &mut [u8], at: usize, n: usize) -> usize
-    requires { at + length (decimal n) ≤ length out.old }
-    ensures { Wrote out.old out.new at (decimal n) result }
-{
-    if n < 10 {
-        return write_byte(out, at, DIGIT_ZERO + n as u8);
+    fn write(&mut self, bytes: &[u8])
+        requires { self.old.at + length bytes.now ≤ length self.old.out.now }
+        ensures same_bytes { self.new.out.ghost_name ≡ self.old.out.ghost_name }
+        ensures wrote { Wrote self.old.out.now self.new.out.now self.old.at bytes.now self.new.at }
+    {
+        let end = self.at + bytes.len();
+        self.out[self.at..end].copy_from_slice(bytes);
+        self.at = end;
     }
-    let place = write_decimal(out, at, n / 10);
-    write_byte(out, place, DIGIT_ZERO + (n % 10) as u8)
-}
 
-// "Each record written ends in CRLF".
-fn write_end(out: &mut [u8], at: usize) -> usize
-    requires { at + 2 ≤ length out.old }
-    ensures { Wrote out.old out.new at (cr ∷ lf ∷ []) result }
-{
-    write_bytes(out, at, b"\r\n")
-}
+    // The digits of the tenth part, unless it is zero, and a digit.
+    fn write_decimal(&mut self, n: usize)
+        requires { self.old.at + length (decimal n) ≤ length self.old.out.now }
+        ensures same_bytes { self.new.out.ghost_name ≡ self.old.out.ghost_name }
+        ensures wrote { Wrote self.old.out.now self.new.out.now self.old.at (decimal n) self.new.at }
+    {
+        let higher = n / 10;
+        if 0 < higher {
+            self.write_decimal(higher);
+        }
+        self.write(&[DIGIT_ZERO + (n % 10) as u8]);
+    }
 
-// "one record `code,second` for each event". Each number is below 65,536, so five digits are the most.
-pub fn write_answer(out: &mut [u8], at: usize, answer: Answer) -> usize
-    requires { at + 13 ≤ length out.old }
-    ensures { Wrote out.old out.new at (answer_record answer.code answer.second) result }
-{
-    let comma = write_decimal(out, at, answer.code as usize);
-    let second = write_bytes(out, comma, b",");
-    let end = write_decimal(out, second, answer.second as usize);
-    write_end(out, end)
-}
+    // "Each record written ends in CRLF".
+    fn write_end(&mut self)
+        requires { self.old.at + 2 ≤ length self.old.out.now }
+        ensures same_bytes { self.new.out.ghost_name ≡ self.old.out.ghost_name }
+        ensures wrote { Wrote self.old.out.now self.new.out.now self.old.at (cr ∷ lf ∷ []) self.new.at }
+    {
+        self.write(b"\r\n");
+    }
 
-// "`bad,` and the record's number".
-pub fn write_bad(out: &mut [u8], at: usize, n: usize) -> usize
-    requires { (n < 100000) × (at + 11 ≤ length out.old) }
-    ensures { Wrote out.old out.new at (bad_record n) result }
-{
-    let number = write_bytes(out, at, b"bad,");
-    let end = write_decimal(out, number, n);
-    write_end(out, end)
+    // "one record `code,second` for each event". Each number is below 65,536, so five digits are the most.
+    pub fn write_answer(&mut self, answer: Answer)
+        requires { self.old.at + 13 ≤ length self.old.out.now }
+        ensures same_bytes { self.new.out.ghost_name ≡ self.old.out.ghost_name }
+        ensures wrote { Wrote self.old.out.now self.new.out.now self.old.at (answer_record (code answer) (second answer)) self.new.at }
+    {
+        let code = answer.err().map_or(0, u16::from);
+        let second = answer.unwrap_or(0);
+        self.write_decimal(usize::from(code));
+        self.write(b",");
+        self.write_decimal(usize::from(second));
+        self.write_end();
+    }
+
+    // "`bad,` and the record's number".
+    pub fn write_bad(&mut self, n: usize)
+        requires { (n < 100000) × (self.old.at + 11 ≤ length self.old.out.now) }
+        ensures same_bytes { self.new.out.ghost_name ≡ self.old.out.ghost_name }
+        ensures wrote { Wrote self.old.out.now self.new.out.now self.old.at (bad_record n) self.new.at }
+    {
+        self.write(b"bad,");
+        self.write_decimal(n);
+        self.write_end();
+    }
 }

@@ -1,11 +1,13 @@
 -- The invariant: the records so far are rows of the tables.
 use Prim.Native.Nat.{◌-◌}
+use mathlib.Core.Path.{◌≡◌}
 use lib.ListN.{length}
+use Rattle.load.specs.Filling.{SameTables}
 use Rattle.load.proofs.Machines.{Going}
 use Rattle.load.proofs.load.Given as goal
 
-abbrev pub invariant-loop-at : goal.invariant-loop-at
-invariant-loop-at l = Going l.text l.rules l.kinds l.rights l.at l.taken l.counts
+abbrev pub invariant-loop-line : goal.invariant-loop-line
+invariant-loop-line l = (l.reader.text.now ≡ l.text) × SameTables l.initial.tables l.tables × Going l.text l.reader.at l.taken l.tables
 
-abbrev pub decreases-loop-at : goal.decreases-loop-at
-decreases-loop-at l = length l.text - l.at
+abbrev pub decreases-loop-line : goal.decreases-loop-line
+decreases-loop-line l = length l.text - l.reader.at

@@ -1,19 +1,16 @@
-use mathlib.Core.Path.{sym, ◌∙◌}
-use lib.ListN.{get_or}
-use borrow.Author.Tests.{eq-eqb, ne_eqb}
-use Rattle.text.specs.Places.{at_comma, field_end}
-use Rattle.text.proofs.Ends.{end_more, end_stop, end_past, comma-at}
 use borrow.Author.Rules.{rules}
+use borrow.Author.Tests.{tests}
+use Prim.Native.Nat.{ℕ, ◌-◌}
+use lib.Dec.{eqb}
+use lib.ListN.{length, take, drop}
+use Rattle.std.proofs.lemmas.Iterator.{YieldsList-from_slice}
+use Rattle.std.proofs.lemmas.Iterator.Search.{position_from_yields_List}
+use Rattle.text.proofs.Ends.{left_is, comma_found}
 use Rattle.text.proofs.field_end.Goals as goal
 
-pub returns-then-bytes-i-eq-COMMA : goal.returns-then-bytes-i-eq-COMMA
-unfolding field_end
-returns-then-bytes-i-eq-COMMA c = sym (end_stop at_comma _ _ c.loop-i-test.true (comma-at c.args.bytes.now c.loop-i.i ∙ eq-eqb (get_or c.args.bytes.now c.loop-i.i 0) 44 c.if-bytes-i-eq-COMMA.true)) ∙ c.loop-i.invariant.1
-
-pub loop-i-preserved : goal.loop-i-preserved
-unfolding field_end
-loop-i-preserved c = (search rules, end_more at_comma _ _ c.loop-i-test.true (comma-at c.args.bytes.now c.loop-i.i ∙ ne_eqb (get_or c.args.bytes.now c.loop-i.i 0) 44 c.if-bytes-i-eq-COMMA.false) ∙ c.loop-i.invariant.1)
-
 pub returns : goal.returns
-unfolding field_end
-returns c = sym (end_past at_comma _ _ c.loop-i.invariant.0 c.loop-i-test.false) ∙ c.loop-i.invariant.1
+returns c =
+    let s = c.args.bytes.now in
+    let left = take (length s - c.args.from) (drop c.args.from s) in
+    let e = position_from_yields_List (λ (b : ℕ). eqb b 44) _ _ c.position-comma.result c.position-comma.ensures.ran (YieldsList-from_slice left c.iter.ensures.rest) (λ x b q k. search (rules, tests)) in
+    comma_found s c.args.from left c.position-comma.result c.map_or.result c.requires (left_is s c.args.from) e (search rules)

@@ -1,12 +1,14 @@
-use mathlib.Core.Path.{sym}
-use Rattle.text.proofs.Ends.{no-cr, cr_then, cr_last}
+use mathlib.Core.Path.{ap, ◌∙◌}
+use mathlib.Core.List.{List, [], ◌∷◌}
+use Prim.Native.Nat.{ℕ}
+use lib.Dec.{eqb}
+use lib.ListN.{drop}
+use Rattle.std.specs.List.{starts_with}
+use Rattle.text.proofs.Ends.{left_is, crlf_starts}
 use Rattle.text.proofs.is_crlf.Goals as goal
 
-pub returns-then-text-place-ne-CR : goal.returns-then-text-place-ne-CR
-returns-then-text-place-ne-CR c = sym (no-cr c.args.text.now c.args.place c.if-text-place-ne-CR.true)
-
-pub returns-then-text-next : goal.returns-then-text-next
-returns-then-text-next c = sym (cr_last c.args.text.now c.args.place c.if-text-place-ne-CR.false c.if-text-next.true)
-
 pub returns : goal.returns
-returns c = sym (cr_then c.args.text.now c.args.place c.if-text-place-ne-CR.false)
+returns c =
+    c.starts_with.ensures.value
+    ∙ ap (λ (l : List ℕ). starts_with eqb l (13 ∷ 10 ∷ [])) (left_is c.args.text.now c.args.place)
+    ∙ crlf_starts (drop c.args.place c.args.text.now)

@@ -1,12 +1,7 @@
 -- The invariant: the end from here is the end from the start.
-use Prim.Native.Nat.{◌≤◌, ◌-◌}
 use mathlib.Core.Path.{◌≡◌}
-use lib.ListN.{length}
 use Rattle.text.specs.Places.{record_end}
 use Rattle.text.proofs.record_end.Given as goal
 
 abbrev pub invariant-loop-i : goal.invariant-loop-i
-invariant-loop-i l = (l.i ≤ length l.text) × (record_end l.text l.i ≡ record_end l.text l.from)
-
-abbrev pub decreases-loop-i : goal.decreases-loop-i
-decreases-loop-i l = length l.text - l.i
+invariant-loop-i l = record_end l.text l.i ≡ record_end l.text l.from

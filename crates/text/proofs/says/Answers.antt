@@ -1,6 +1,7 @@
-use mathlib.Core.Path.{sym}
-use Rattle.text.proofs.Letters.{same_size}
+use mathlib.Core.Path.{ap, ◌∙◌}
+use Rattle.program.specs.Vocabulary.{same}
+use Rattle.text.proofs.Letters.{same_by_bytes}
 use Rattle.text.proofs.says.Goals as goal
 
-pub returns-then-field-word : goal.returns-then-field-word
-returns-then-field-word c = sym (same_size c.args.field.now c.args.word.now c.if-field-word.true)
+pub returns : goal.returns
+returns c = c.eq.ensures ∙ same_by_bytes c.args.field.now c.spelling.result.now ∙ ap (same c.args.field.now) c.spelling.ensures

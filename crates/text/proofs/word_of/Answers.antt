@@ -1,16 +1,15 @@
-use mathlib.Core.Path.{sym, ◌∙◌}
-use native.Mathlib.Nat.{zero-add}
-use Rattle.program.specs.Vocabulary.{Word, vocabulary, same, word_of}
-use Rattle.text.proofs.Letters.{place_more, place_hit}
+use mathlib.Core.Path.{ap, ◌∙◌}
 use borrow.Author.Rules.{rules}
+use borrow.Author.Tests.{tests}
+use Rattle.std.proofs.lemmas.Iterator.{YieldsList-from_slice}
+use Rattle.std.proofs.lemmas.Iterator.Search.{find_from_yields_List}
+use Rattle.program.specs.Vocabulary.{same, numbered}
+use Rattle.program.specs.Said.{number_of, word_said}
+use Rattle.program.specs.declared.Word.{Word}
+use Rattle.text.proofs.Letters.{named, word_found}
 use Rattle.text.proofs.word_of.Goals as goal
 
-pub loop-word-init : goal.loop-word-init
-unfolding word_of
-loop-word-init c = (search rules, zero-add _)
-
-pub returns-then-says_word : goal.returns-then-says_word
-returns-then-says_word c = sym (place_hit (λ (w : Word). same c.args.field.now w.letters) vocabulary _ _ c.loop-word-test.true (sym c.says_word.ensures ∙ c.if-says_word.true)) ∙ c.loop-word.invariant.1
-
-pub loop-word-preserved : goal.loop-word-preserved
-loop-word-preserved c = (search rules, place_more (λ (w : Word). same c.args.field.now w.letters) vocabulary _ _ c.loop-word-test.true (sym c.says_word.ensures ∙ c.if-says_word.false) ∙ c.loop-word.invariant.1)
+pub returns : goal.returns
+returns c =
+    let e = find_from_yields_List (λ (w : Word). same c.args.field.now (numbered (number_of w)).letters) _ _ c.find.result c.find.ensures.ran (YieldsList-from_slice named c.iter.ensures.rest) (λ x b q k. search (rules, tests)) in
+    ap word_said (c.copied.ensures ∙ e) ∙ word_found c.args.field.now
