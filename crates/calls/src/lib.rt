@@ -14,10 +14,10 @@ use model::{Answer, Certificate, Lent, Reason, STATE_SIZE};
 fn judge(policy: Lent, state: &[u16]) -> Result<(), Reason>
     ensures { code result ≡ judgement (tables_of policy.entry) state.now }
 {
-    if !policy::policy_sound(policy.rules, policy.kinds, policy.rights) {
+    if !policy::policy_sound(policy) {
         return Err(Reason::MalformedPolicy);
     }
-    if !sound::state_sound(policy.rules, policy.kinds, state) {
+    if !sound::state_sound(policy, state) {
         return Err(Reason::UnsoundState);
     }
     Ok(())
