@@ -1,5 +1,5 @@
 -- What a queue says of the entries of a table: which one comes next, and that none of its own was passed over.
-use Rattle.std.specs.Prelude.{ℕ, ◌+◌, ◌*◌, ◌%◌, ◌≤◌, ◌<◌, ◌≡◌, ◌≢◌, Option, Some, None, List, length, get_or}
+use Rattle.std.specs.Prelude.{ℕ, ◌+◌, ◌*◌, ◌%◌, ◌≤◌, ◌<◌, ◌≡◌, ◌≢◌, cond, Option, Some, None, List, ltb, length, get_or}
 use Rattle.queues.specs.declared.Queues.{Queues}
 
 -- how many numbers an entry has, and how many entries a table has at most
@@ -20,6 +20,13 @@ queues = 512
 abbrev pub queue : ℕ → ℕ
 queue u = u % queues
 
+-- the entry that a number stands for, if it stands for one
+abbrev pub no_entry : ℕ
+no_entry = most_entries
+
+abbrev pub entry : ℕ → Option ℕ
+entry k = cond (ltb k no_entry) (Some k) None
+
 -- of n entries, k is the first from i on that is in queue b
 pub record FirstAt (s : List ℕ) (place n b i k : ℕ) : Type 0 where
   pub ahead : i ≤ k
@@ -33,14 +40,14 @@ Link s place n b i None = (h : ℕ) → i ≤ h → h < n → queue (user_at s p
 Link s place n b i (Some k) = FirstAt s place n b i k
 
 -- the entries from i on are queued: each queue's first stands in `heads`
-pub record Begins (s : List ℕ) (place n i : ℕ) (heads : List (Option ℕ)) : Type 0 where
+pub record Begins (s : List ℕ) (place n i : ℕ) (heads : List ℕ) : Type 0 where
   pub size : length heads ≡ queues
-  pub begins : (b : ℕ) → b < queues → Link s place n b i (get_or heads b None)
+  pub begins : (b : ℕ) → b < queues → Link s place n b i (entry (get_or heads b 0))
 
 -- and behind each entry the next of its queue in `next`
-pub record GoesOn (s : List ℕ) (place n i : ℕ) (next : List (Option ℕ)) : Type 0 where
+pub record GoesOn (s : List ℕ) (place n i : ℕ) (next : List ℕ) : Type 0 where
   pub size : length next ≡ most_entries
-  pub goes_on : (k : ℕ) → i ≤ k → k < n → Link s place n (queue (user_at s place k)) (k + 1) (get_or next k None)
+  pub goes_on : (k : ℕ) → i ≤ k → k < n → Link s place n (queue (user_at s place k)) (k + 1) (entry (get_or next k 0))
 
 -- all n entries that stand from `place` on are queued
 pub record Queued (s : List ℕ) (place n : ℕ) (q : Queues) : Type 0 where
@@ -49,7 +56,7 @@ pub record Queued (s : List ℕ) (place n : ℕ) (q : Queues) : Type 0 where
 
 -- the first entry of the user's queue, and the entry that comes behind entry k in its queue
 abbrev pub first_entry : Queues → ℕ → Option ℕ
-first_entry q u = get_or q.heads (queue u) None
+first_entry q u = entry (get_or q.heads (queue u) 0)
 
 abbrev pub entry_behind : Queues → ℕ → Option ℕ
-entry_behind q k = get_or q.next k None
+entry_behind q k = entry (get_or q.next k 0)

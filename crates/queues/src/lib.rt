@@ -4,7 +4,7 @@
 #![tactic(auto)]
 
 ghost use Rattle.std.specs.Prelude.{◌≡◌, ◌+◌, ◌*◌, ◌≤◌, ◌<◌, length};
-ghost use Rattle.queues.specs.Queued.{entry_width, most_entries, queues, queue, Queued, first_entry, entry_behind};
+ghost use Rattle.queues.specs.Queued.{entry_width, most_entries, queues, queue, entry, Queued, first_entry, entry_behind};
 
 // How many queues there are.
 const QUEUES: usize = 512;
@@ -22,11 +22,26 @@ fn queue_of(user: u16) -> usize
     user as usize % QUEUES
 }
 
-// The entries of one table, queued: where each queue begins, and which entry of its queue comes behind each entry.
+// Stands where a queue ends, and in the place of a queue without entries.
+const NO_ENTRY: u16 = 256;
+
+// The entry that a number stands for, if it stands for one.
+fn entry(number: u16) -> Option<usize>
+    ensures { result ≡ entry number }
+{
+    if number < NO_ENTRY {
+        Some(usize::from(number))
+    } else {
+        None
+    }
+}
+
+// The entries of one table, queued: where each queue begins, and which entry of its queue comes behind each entry. A place is one number and
+// not an Option, which is written in two parts and read as one, and so is slower where a queue's entries stand close together.
 #[derive(Drop)]
 pub struct Queues {
-    heads: [Option<u8>; QUEUES],
-    next: [Option<u8>; MOST_ENTRIES],
+    heads: [u16; QUEUES],
+    next: [u16; MOST_ENTRIES],
 }
 
 impl Queues {
@@ -35,28 +50,30 @@ impl Queues {
         requires { (n ≤ most_entries) × (n * entry_width + place ≤ length state.now) }
         ensures { Queued state.now place n result }
     {
-        let mut heads = [None; QUEUES];
-        let mut next = [None; MOST_ENTRIES];
+        let mut queues = Queues {
+            heads: [NO_ENTRY; QUEUES],
+            next: [NO_ENTRY; MOST_ENTRIES],
+        };
         for i in (0..n).rev() {
             let b = queue_of(state[i * WIDTH + place]);
-            next[i] = heads[b];
-            heads[b] = Some(i as u8);
+            queues.next[i] = queues.heads[b];
+            queues.heads[b] = i as u16;
         }
-        Queues { heads, next }
+        queues
     }
 
     // The first entry of the user's queue.
     pub fn first(&self, user: u16) -> Option<usize>
         ensures { result ≡ first_entry self.now user }
     {
-        self.heads[queue_of(user)].map(usize::from)
+        entry(self.heads[queue_of(user)])
     }
 
     // The entry that comes behind this one in its queue.
-    pub fn behind(&self, entry: usize) -> Option<usize>
-        requires { entry < most_entries }
-        ensures { result ≡ entry_behind self.now entry }
+    pub fn behind(&self, k: usize) -> Option<usize>
+        requires { k < most_entries }
+        ensures { result ≡ entry_behind self.now k }
     {
-        self.next[entry].map(usize::from)
+        entry(self.next[k])
     }
 }

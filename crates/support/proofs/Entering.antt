@@ -7,7 +7,6 @@ use mathlib.Core.List.{List, [], ◌∷◌, ◌++◌}
 use native.Mathlib.Omega.{arith}
 use native.Mathlib.Numerals.{add-one}
 use lib.ListN.{length, get_or, set, replicate}
-use Rattle.model.specs.Limits.{roles}
 use Rattle.model.specs.Values.{World}
 use Rattle.model.specs.Layout.{decode, row_count, certificate_count, certificates_at}
 use Rattle.model.specs.Conditions.{active, supported}

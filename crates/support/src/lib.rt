@@ -30,11 +30,11 @@ pub enum Verdict {
 struct Pass<'a> {
     policy: Lent<'a>,
     state: &'a [u16],
-    rows: Queues,
-    certificates: Queues,
+    rows: &'a Queues,
+    certificates: &'a Queues,
     ghost in_range: { InRange state.now },
-    ghost rows_queued: { Queued state.now rows_at (row_count state.now) rows } by { Prim.hlevel (props, Link-prop) },
-    ghost certificates_queued: { Queued state.now certificates_at (certificate_count state.now) certificates } by { Prim.hlevel (props, Link-prop) },
+    ghost rows_queued: { Queued state.now rows_at (row_count state.now) rows.now } by { Prim.hlevel (props, Link-prop) },
+    ghost certificates_queued: { Queued state.now certificates_at (certificate_count state.now) certificates.now } by { Prim.hlevel (props, Link-prop) },
 }
 
 impl Pass<'_> {
@@ -119,11 +119,13 @@ pub fn judge_rows(policy: Lent, state: &[u16]) -> [Option<Verdict>; MOST_ROWS]
 {
     let n = table::wide(state[ROW_COUNT_AT]);
     let m = table::wide(state[CERTIFICATE_COUNT_AT]);
+    let rows = Queues::of(state, ROWS_AT, n);
+    let certificates = Queues::of(state, CERTIFICATES_AT, m);
     let pass = Pass {
         policy,
         state,
-        rows: Queues::of(state, ROWS_AT, n),
-        certificates: Queues::of(state, CERTIFICATES_AT, m),
+        rows: &rows,
+        certificates: &certificates,
     };
     pass.judge_each()
 }

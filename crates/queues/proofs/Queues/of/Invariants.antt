@@ -3,4 +3,4 @@ use Rattle.queues.proofs.Linking.{Queueing}
 use Rattle.queues.proofs.Queues.of.Given as goal
 
 abbrev pub invariant-loop-i : goal.invariant-loop-i
-invariant-loop-i l = Queueing l.state l.place l.n l.i l.heads l.next
+invariant-loop-i l = Queueing l.state l.place l.n l.i l.queues.heads l.queues.next
