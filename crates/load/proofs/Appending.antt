@@ -31,9 +31,6 @@ module _ (l : Line) (ten : length l.numbers ≡ 10) where
       let rest : drop 2 l.numbers ≡ cells l.numbers 0 2 8 = sym (take_all 8 (drop 2 l.numbers) (simp length-drop (omega (arith, ten)))) ∙ part_cells l.numbers 0 2 8 (omega (arith, ten)) in
       λ i. number l.numbers 0 ∷ (l.count - 2) ∷ number l.numbers 1 ∷ sym rest i
 
-  pub kind_row_lem : number l.numbers 0 ∷ number l.numbers 1 ∷ (l.count - 2) ∷ cells l.numbers 0 2 4 ≡ kind_row l
-  kind_row_lem = λ i. number l.numbers 0 ∷ number l.numbers 1 ∷ (l.count - 2) ∷ sym (part_cells l.numbers 0 2 4 (omega (arith, ten))) i
-
   pub right_row_lem : cells l.numbers 0 0 2 ≡ right_row l
   right_row_lem = sym (part_cells l.numbers 0 0 2 (omega (arith, ten)))
 

@@ -26,9 +26,6 @@ pub record Taken (fields rest : List (List ℕ)) (count : ℕ) (numbers : List �
   pub counted : length read ≡ count
   pub kept : numbers ≡ filled_to most_numbers (map value_of read)
 
-pub taken_none : (fields : List (List ℕ)) → Taken fields fields 0 (replicate most_numbers 0)
-taken_none fields = record { read = []; whole = refl; good = refl; counted = refl; kept = refl }
-
 -- what a field's number says of the field
 is_number_lem : (f : List ℕ) (v : ℕ) → number_of f ≡ Some v → (is_number f ≡ true) × (value_of f ≡ v)
 unfolding number_of

@@ -85,3 +85,6 @@ number_one s h = number_is s (omega arith) (rw h refl)
 
 pub number_more : (s : List ℕ) → 1 < length s → (get_or s 0 0 ≡ 48 → ⊥) → written_behind 0 s ≡ number_of s
 number_more s h e = number_is s (omega arith) (simp (ne_eqb (length s) 1 (λ q. omega arith), ne_eqb (get_or s 0 0) 48 e))
+
+-- what the first digits of a field say of it
+pub ruleset first_digits = (number_none, number_zero, number_one, number_more)

@@ -2,20 +2,18 @@
 -- outline does: a record and the records behind it, a field and the fields behind it.
 use Prim.Native.Nat.{ℕ, suc, ◌+◌, ◌-◌, ◌<◌, ◌≤◌}
 use mathlib.Core.Path.{◌≡◌, refl, sym, ap, subst, ◌∙◌}
-use mathlib.Core.Bool.{Bool, true, false, ◌&&◌, cond, and-true}
-use mathlib.Core.Logic.{◌⊎◌, ◌≢◌, inl, inr}
+use mathlib.Core.Bool.{Bool, true, false, ◌&&◌, cond}
 use mathlib.Core.List.{List, [], ◌∷◌, map}
 use native.Mathlib.Omega.{arith}
-use borrow.Author.Tests.{ltb-false, eq-eqb, ne_eqb}
+use borrow.Author.Tests.{ltb-false}
 use native.Mathlib.Numerals.{add-one, one-add}
 use lib.Dec.{eqb, ltb}
 use lib.ListN.{length, get_or, take, drop, length-drop}
 use lib.Seq.{take_all, drop-cons, drop-drop, drop-length}
 use Rattle.std.specs.Prelude.{Option, Some, None, MatchOption}
-use Rattle.std.specs.List.{starts_with, position_or_len}
+use Rattle.std.specs.List.{position_or_len}
 use Rattle.std.proofs.lemmas.List.Recursion.{is_position_or_len}
 use Rattle.program.specs.Text.{before, records, fields, unquoted}
-use Rattle.model.proofs.Tests.{eq_or_ne}
 use Rattle.text.specs.Places.{part, Within, at_crlf, at_comma, bytes_before, end_from, record_end, field_end, fields_after, said_behind}
 
 module _ (test : List ℕ → Bool) where
@@ -49,51 +47,38 @@ module _ (test : List ℕ → Bool) where
   pub end_past : (s : List ℕ) (i : ℕ) → i ≤ length s → length s ≤ i → end_from test s i ≡ i
   end_past s i h l = let w = end_within s i (end_from test s i) refl h in omega arith
 
--- ── a CRLF by its two bytes, and a comma by how many bytes stand before it ──
+-- ── an end as `position` finds it ──
 
 -- all that is left from a place on
 pub left_is : (s : List ℕ) (i : ℕ) → take (length s - i) (drop i s) ≡ drop i s
 left_is s i = take_all (length s - i) (drop i s) (omega (arith, length-drop i s))
 
-turned : (a b : ℕ) → eqb a b ≡ eqb b a
-turned a b = go (eq_or_ne a b)
+-- of `size` items, the first that passes is the one behind n, or none is: then m is n, or the whole length
+pub record Found (n size m len : ℕ) : Type 0 where
+  pub some : ltb n size ≡ true → m ≡ n
+  pub none : ltb n size ≡ false → m ≡ len
+
+pub end_found : (test : List ℕ → Bool) (s : List ℕ) (from : ℕ) (left : List ℕ) (n size : ℕ) (r : Option ℕ) (end : ℕ) → from ≤ length s → left ≡ drop from s → Found n size (bytes_before test left) (length left)
+    → r ≡ cond (ltb n size) (Some n) None → MatchOption r (end ≡ length s) (λ k. end ≡ from + k) → end ≡ end_from test s from
+end_found test s from left n size r end h l f e m = go (ltb n size) refl
   where
-    go : (a ≡ b) ⊎ (a ≢ b) → eqb a b ≡ eqb b a
-    go (inl e) = eq-eqb a b e ∙ sym (eq-eqb b a (sym e))
-    go (inr e) = ne_eqb a b e ∙ sym (ne_eqb b a (λ q. e (sym q)))
+    same : bytes_before test (drop from s) ≡ bytes_before test left
+    same = ap (bytes_before test) (sym l)
 
-pub crlf_starts : (l : List ℕ) → starts_with eqb l (13 ∷ 10 ∷ []) ≡ at_crlf l
-unfolding at_crlf
-crlf_starts [] = refl
-crlf_starts (a ∷ []) = ap (λ (x : Bool). x && false) (turned 13 a)
-crlf_starts (a ∷ b ∷ l) = λ i. turned 13 a i && (and-true (eqb 10 b) ∙ turned 10 b) i
+    is : (b : Bool) → ltb n size ≡ b → MatchOption (cond b (Some n) None) (end ≡ length s) (λ k. end ≡ from + k)
+    is b q = subst (λ (o : Option ℕ). MatchOption o (end ≡ length s) (λ k. end ≡ from + k)) (e ∙ ap (λ (x : Bool). cond x (Some n) None) q) m
 
-comma_before : (l : List ℕ) → bytes_before at_comma l ≡ position_or_len (λ (b : ℕ). eqb b 44) l
+    go : (b : Bool) → ltb n size ≡ b → end ≡ from + bytes_before test (drop from s)
+    go true q = let found : end ≡ from + n = is true q in omega (arith, found, same, f.some q)
+    go false q = let none : end ≡ length s = is false q in omega (arith, none, same, f.none q, ap length l, length-drop from s)
+
+-- a comma is one byte
+pub comma_found : (l : List ℕ) → Found (position_or_len (λ (b : ℕ). eqb b 44) l) (length l) (bytes_before at_comma l) (length l)
 unfolding at_comma
-comma_before l = is_position_or_len (bytes_before at_comma) (λ (b : ℕ). eqb b 44) refl (λ b m. ap (cond (eqb b 44) 0) (sym (one-add (bytes_before at_comma m)))) l
-
--- the first comma of what is left, or the end where there is none
-pub comma_found : (s : List ℕ) (from : ℕ) (left : List ℕ) (r : Option ℕ) (end : ℕ) → from ≤ length s → left ≡ drop from s
-    → r ≡ cond (ltb (position_or_len (λ (b : ℕ). eqb b 44) left) (length left)) (Some (position_or_len (λ (b : ℕ). eqb b 44) left)) None
-    → MatchOption r (end ≡ length s) (λ n. end ≡ from + n) → end ≡ field_end s from
-unfolding field_end
-comma_found s from left r end h l e m = go (ltb n (length left)) refl
+comma_found l = record { some = λ e. is; none = λ e. omega (arith, is, before_le at_comma l, ltb-false (position_or_len (λ (b : ℕ). eqb b 44) l) (length l) e) }
   where
-    n : ℕ
-    n = position_or_len (λ (b : ℕ). eqb b 44) left
-
-    is : bytes_before at_comma (drop from s) ≡ n
-    is = comma_before (drop from s) ∙ ap (position_or_len (λ (b : ℕ). eqb b 44)) (sym l)
-
-    go : (b : Bool) → ltb n (length left) ≡ b → end ≡ from + bytes_before at_comma (drop from s)
-    go true q =
-        let found : end ≡ from + n = subst (λ (o : Option ℕ). MatchOption o (end ≡ length s) (λ k. end ≡ from + k)) (e ∙ ap (λ (x : Bool). cond x (Some n) None) q) m in
-        omega (arith, found, is)
-    go false q =
-        let none : end ≡ length s = subst (λ (o : Option ℕ). MatchOption o (end ≡ length s) (λ k. end ≡ from + k)) (e ∙ ap (λ (x : Bool). cond x (Some n) None) q) m in
-        let few = before_le at_comma (drop from s) in
-        let size = ap length l in
-        omega (arith, none, is, few, size, ltb-false n (length left) q, length-drop from s)
+    is : bytes_before at_comma l ≡ position_or_len (λ (b : ℕ). eqb b 44) l
+    is = is_position_or_len (bytes_before at_comma) (λ (b : ℕ). eqb b 44) refl (λ b m. ap (cond (eqb b 44) 0) (sym (one-add (bytes_before at_comma m)))) l
 
 -- ── how the ends cut a text, and a record ──
 

@@ -1,4 +1,5 @@
 pub mod Ends
+pub mod Pairs
 pub mod Digits
 pub mod Letters
 pub mod Quotes

@@ -41,3 +41,6 @@ module _ (f : List ℕ) where
       let yes-quoted : is_quoted f ≡ true = simp (le-leb 2 (length f) h, eq-eqb (get_or f 0 0) 34 p, eq-eqb (get_or f (length f - 1) 0) 34 q) in
       let n : length f - 1 - 1 ≡ length f - 2 = omega arith in
       ap (λ (k : ℕ). take k (drop 1 f)) n ∙ ap (λ (b : Bool). cond b (take (length f - 2) (drop 1 f)) f) (sym yes-quoted)
+
+-- all of these
+pub ruleset unquoting = (kept_short, kept_open, kept_unclosed, quotes_off)

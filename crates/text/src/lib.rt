@@ -2,12 +2,12 @@
 
 #![tactic(auto)]
 
-ghost use Rattle.std.specs.Prelude.{◌≡◌, ◌&&◌, ◌≤◌, leb, length, drop};
+ghost use Rattle.std.specs.Prelude.{◌≡◌, ◌&&◌, ◌≤◌, leb, length};
 ghost use Rattle.program.specs.Text.{unquoted};
 ghost use Rattle.program.specs.Vocabulary.{same, word_of, numbered};
 ghost use Rattle.program.specs.Lines.{line_from, line_of};
 ghost use Rattle.program.specs.Said.{number_of as word_number, word_said, line_said};
-ghost use Rattle.text.specs.Places.{part, Within, at_crlf, record_end, field_end, said_behind, number_of, written_behind};
+ghost use Rattle.text.specs.Places.{part, Within, record_end, field_end, said_behind, number_of, written_behind};
 
 use program::{DIGIT_ZERO, Line, MOST_NUMBERS, Word};
 
@@ -15,24 +15,15 @@ const COMMA: u8 = b',';
 
 const QUOTE: u8 = b'"';
 
-fn is_crlf(text: &[u8], place: usize) -> bool
-    requires { place ≤ length text.now }
-    ensures { result ≡ at_crlf (drop place text.now) }
-{
-    text[place..].starts_with(b"\r\n")
-}
+const CRLF: &[u8] = b"\r\n";
 
 // Where the record ends that begins at `from`: at the CRLF, or at the text's end.
 pub fn record_end(text: &[u8], from: usize) -> usize
     requires { from ≤ length text.now }
     ensures { result ≡ record_end text.now from }
 {
-    for i in from..text.len() {
-        if is_crlf(text, i) {
-            return i;
-        }
-    }
-    text.len()
+    let crlf = text[from..].windows(2).position(|pair| pair == CRLF);
+    crlf.map_or(text.len(), |n| from + n)
 }
 
 // Where the field ends that begins at `from`: at the comma, or at the record's end.
@@ -45,7 +36,7 @@ pub fn field_end(bytes: &[u8], from: usize) -> usize
 }
 
 // The field between two places, without the quotes around it if it has them: a part of the text.
-#[tactic(auto, using(crate::proofs::Quotes::kept_short, crate::proofs::Quotes::kept_open, crate::proofs::Quotes::kept_unclosed, crate::proofs::Quotes::quotes_off))]
+#[tactic(auto, using(crate::proofs::Quotes::unquoting))]
 pub fn field(text: &[u8], from: usize, to: usize) -> &[u8]
     requires { Within text.now from to }
     ensures { result.now ≡ unquoted (part text.now from to) }
@@ -72,7 +63,7 @@ fn value_written(field: &[u8]) -> Option<u16>
     Some(value)
 }
 
-#[tactic(auto, using(crate::proofs::Digits::number_none, crate::proofs::Digits::number_zero, crate::proofs::Digits::number_one, crate::proofs::Digits::number_more))]
+#[tactic(auto, using(crate::proofs::Digits::first_digits))]
 fn number_of(field: &[u8]) -> Option<u16>
     ensures { result ≡ number_of field.now }
 {
