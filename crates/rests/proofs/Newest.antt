@@ -1,6 +1,6 @@
 -- The newest row of a role: what code finds from the last row down is the newest, and the role is active exactly if there is one.
 use Prim.Native.Nat.{ℕ, zero, suc, ◌-◌, ◌≤◌}
-use mathlib.Core.Path.{◌≡◌, refl, ap, ◌∙◌, subst}
+use mathlib.Core.Path.{◌≡◌, refl, sym, ap, ◌∙◌, subst}
 use mathlib.Core.Bool.{Bool, true, false, ◌||◌, cond, or-true}
 use mathlib.Core.Logic.{◌≢◌}
 use mathlib.Core.List.{List, [], ◌∷◌}
@@ -11,7 +11,7 @@ use Rattle.std.proofs.lemmas.Iterator.{YieldsList}
 use Rattle.std.specs.Iterator.{AlwaysYields}
 use Rattle.std.specs.Iterator.Adapters.{rev_source, rev_steps}
 use Rattle.std.specs.List.{find}
-use Rattle.std.specs.Prelude.{Some}
+use Rattle.std.specs.Prelude.{Some, None}
 use Rattle.std.specs.declared.iter.Rev.{Rev}
 use Rattle.std.specs.declared.ops.Range.{Range}
 use Rattle.model.specs.Lists.{any}
@@ -20,6 +20,15 @@ use Rattle.model.proofs.Tests.{of_true, any_append}
 use Rattle.table.specs.Entries.{row_at, first_rows}
 use Rattle.table.proofs.Entries.{rows_more}
 use Rattle.rests.specs.Newest.{newest, before}
+
+-- what a place that was found, or none, says of the newest
+pub before_some : (n i : ℕ) → Some i ≡ before n → n ≡ suc i
+before_some zero i e = absurd (cc)
+before_some (suc n) i e = let p : i ≡ n = cc in ap suc (sym p)
+
+pub before_none : (n : ℕ) → None ≡ before n → n ≡ 0
+before_none zero e = refl
+before_none (suc n) e = absurd (cc)
 
 -- the numbers below k, the last first
 abbrev pub down : ℕ → List ℕ

@@ -23,7 +23,12 @@ module _ {A : Type 0} where
   empty_parts [] ys e = (refl, e)
   empty_parts (x ∷ xs) ys e = let z : suc (length (xs ++ ys)) ≡ 0 = ap length e in absurd (omega arith)
 
-  no-first : (xs : List A) → None ≡ slice_get xs 0 → xs ≡ []
+  -- what the first of a list, or none, says of the list
+  pub some-first : (xs : List A) (x d : A) → Some x ≡ slice_get xs 0 → get_or xs 0 d ≡ x
+  some-first [] x d e = absurd (cc)
+  some-first (y ∷ xs) x d e = let p : x ≡ y = cc in sym p
+
+  pub no-first : (xs : List A) → None ≡ slice_get xs 0 → xs ≡ []
   no-first [] e = refl
   no-first (x ∷ xs) e = absurd (cc)
 

@@ -1,6 +1,6 @@
 -- The laws by which loops over tables are proved: one entry more, an entry found, an entry missed; what stands at each place; and
 -- what a well formed state keeps to.
-use Prim.Native.Nat.{ℕ, zero, suc, ◌+◌, ◌*◌, ◌/◌, min, ◌≤◌, ◌<◌}
+use Prim.Native.Nat.{ℕ, zero, suc, ◌+◌, ◌*◌, ◌/◌, ◌≤◌, ◌<◌}
 use mathlib.Core.Path.{◌≡◌, refl, sym, ap, ◌∙◌, subst}
 use mathlib.Core.Bool.{Bool, true, false, ◌&&◌, ◌||◌}
 use mathlib.Core.Logic.{◌⊎◌, inl, inr}
@@ -10,7 +10,7 @@ use native.Mathlib.Nat.{suc-mul, zero-mul, add_comm}
 use native.Mathlib.Numerals.{add-one}
 use lib.Dec.{T}
 use lib.ListN.{length, get_or, take, drop, replicate, length-replicate, get_or-eq_default, length-map}
-use lib.Seq.{get_or-take, get_or-drop, drop-drop, take-suc, take_all, ext_get_or}
+use lib.Seq.{get_or-take, get_or-drop, drop-drop, take-suc, ext_get_or}
 use Rattle.std.specs.Array.{AllOfLen}
 use Rattle.model.specs.Lists.{any, all, rows_of}
 use Rattle.model.specs.Layout.{row_from, row_numbers}
@@ -101,14 +101,6 @@ module _ {A : Type 0} (from : List ℕ → A) (width : ℕ) where
   entries_all_miss test table n j h e = all_spoilt test (entries from width table n) (entry from width table j) (entry-member from width table n j h) e
 
 -- ── what stands at each place ──
-
--- asking for more than there are is asking for all
-pub take-least : {A : Type 0} (m n : ℕ) (l : List A) → length l ≡ n → take (min m n) l ≡ take m l
-take-least m n l e = go (lt_or_ge m n)
-  where
-    go : (m < n) ⊎ (n ≤ m) → take (min m n) l ≡ take m l
-    go (inl h) = let q : min m n ≡ m = omega arith in ap (λ (k : ℕ). take k l) q
-    go (inr h) = take_all (min m n) l (omega arith) ∙ sym (take_all m l (omega arith))
 
 -- number k of a row
 row_number : (l : List ℕ) (b w k : ℕ) → k < w → get_or (take w (drop b l)) k 0 ≡ get_or l (b + k) 0
