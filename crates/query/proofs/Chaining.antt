@@ -80,7 +80,7 @@ module _ (t : Tables) (s : List ℕ) (h : Sound t s) (u : ℕ) where
   one_row q k z l = those_one q (row_count s) (newest s u q (row_count s)) (omega arith) refl (λ e. z (sym (newest-stays t s h u q k (row_count s) z l (omega arith)) ∙ e)) ∙ ap (λ (n : ℕ). row_at s (n - 1) ∷ []) (newest-stays t s h u q k (row_count s) z l (omega arith))
 
   -- what it rests on stands in rows before it, and is a role
-  rests_before : (q k z : ℕ) → newest s u q k ≢ 0 → k ≤ row_count s → Memᴰ z (rests_on policy (row_for q k)) → newest s u z (newest s u q k - 1) ≢ 0
+  pub rests_before : (q k z : ℕ) → newest s u q k ≢ 0 → k ≤ row_count s → Memᴰ z (rests_on policy (row_for q k)) → newest s u z (newest s u q k - 1) ≢ 0
   rests_before q k z n l m e =
       true≢false
       (sym (is_true (active (first_rows s (newest s u q k - 1)) u z)
@@ -88,7 +88,7 @@ module _ (t : Tables) (s : List ℕ) (h : Sound t s) (u : ℕ) where
       (rests_on_active world (first_rows s (newest s u q k - 1)) (row_for q k) (row-supported world (first_rows s (newest s u q k - 1)) (row_for q k) (sound-row t s h (newest s u q k - 1) (omega (arith, newest-within s u q k, n)))) z m)))
       ∙ newest-active s u z (newest s u q k - 1) e)
 
-  is_role_lem : (q k : ℕ) → newest s u q k ≢ 0 → k ≤ row_count s → q < 256
+  pub is_role_lem : (q k : ℕ) → newest s u q k ≢ 0 → k ≤ row_count s → q < 256
   is_role_lem q k z l = subst (λ (w : ℕ). w < 256) (is_row-role u q (row_for q k) (row_for_lem s u q k z)) (ltb→lt (row_for q k).role 256 (row-role world (first_rows s (newest s u q k - 1)) (row_for q k) (sound-row t s h (newest s u q k - 1) (omega (arith, newest-within s u q k, z)))))
 
   -- a role is written, and then what its row rests on first
@@ -101,13 +101,6 @@ module _ (t : Tables) (s : List ℕ) (h : Sound t s) (u : ℕ) where
       go : (ls : List ℕ) → ((w : ℕ) → Memᴰ w ls → w < 256) → joined (λ (lower : ℕ). written policy rows u most lower) (take 1 ls) ≡ onward t s u most (get_or ls 0 256)
       go [] f = refl
       go (w ∷ ls) f = append-nil (written policy rows u most w) ∙ sym (ap (λ (b : Bool). cond b (written policy rows u most w) []) (lt-ltb w 256 (f w (Memᴰ.head refl))))
-
-  pub next-stands : (q k lower : ℕ) → newest s u q k ≢ 0 → k ≤ row_count s → lower ≡ get_or (rests_on policy (row_for q k)) 0 256 → lower < 256 → newest s u lower (newest s u q k - 1) ≢ 0
-  next-stands q k lower z l e r = rests_before q k lower z l (subst⁻¹ (λ (w : ℕ). Memᴰ w (rests_on policy (row_for q k))) e (go (rests_on policy (row_for q k)) (subst (λ (w : ℕ). w < 256) e r)))
-    where
-      go : (ls : List ℕ) → get_or ls 0 256 < 256 → Memᴰ (get_or ls 0 256) ls
-      go [] m = absurd (omega arith)
-      go (w ∷ ls) m = Memᴰ.head refl
 
   -- ── no role is written twice ──
 

@@ -27,8 +27,7 @@ use Rattle.inner.specs.Promise.{lent, AnswersWith}
 use Rattle.inner.proofs.Codes.{own_refuses, own_accepts, out_of_range_lem, in_range, found, active_now}
 use Rattle.rests.specs.Newest.{newest}
 use Rattle.rests.proofs.Newest.{newest-active}
-use Rattle.rests.proofs.Stepping.{rests_same}
-use Rattle.query.proofs.Chaining.{onward, next-stands, walk_goes_on, never_twice, filled}
+use Rattle.query.proofs.Chaining.{never_twice, filled}
 
 -- active in the first k rows: there is a newest row
 pub active-newest : (s : List ℕ) (u q k : ℕ) → active (first_rows s k) u q ≡ true → newest s u q k ≢ 0
@@ -68,16 +67,3 @@ module _ (rules kinds rights s list : List ℕ) (h : Sound (lent rules kinds rig
         own_accepts (lent rules kinds rights) s list h (chain u q) _ chain_is n s after
         (later ranges (later (found (active (decode s).rows u q) (sym (active_now s k u q all) ∙ a)) (later (of_false (some_twice (written (policy_of (lent rules kinds rights)) (decode s).rows u 257 q)) (never_twice (lent rules kinds rights) s h u 257 q k (active-newest s u q k a) (omega arith))) none)))
         (sym (ap length w ∙ length-take n before ∙ omega arith)) (sym (encode-decode s (sound_formed (policy_of (lent rules kinds rights)) s h.state))) (filled before after n l size f ∙ ap (filled_to 256) (sym w))
-
--- ── one turn of the loop: the row of the role, and the role that it rests on first ──
-
-module _ (rules kinds rights s : List ℕ) (h : Sound (lent rules kinds rights) s) (u q k p lower : ℕ) (row : Row) where
-  next_is : p ≡ newest s u q k → row ≡ row_at s (p - 1) → lower ≡ get_or (rests_on (policy_of (without_rights rules kinds)) row) 0 256 → lower ≡ get_or (rests_on (policy_of (lent rules kinds rights)) (row_at s (newest s u q k - 1))) 0 256
-  next_is a b c = c ∙ ap (λ (l : List ℕ). get_or l 0 256) (rests_same (lent rules kinds rights) row ∙ ap (rests_on (policy_of (lent rules kinds rights))) (b ∙ ap (λ (n : ℕ). row_at s (n - 1)) a))
-
-  pub turn-stands : p ≡ newest s u q k → row ≡ row_at s (p - 1) → lower ≡ get_or (rests_on (policy_of (without_rights rules kinds)) row) 0 256 → newest s u q k ≢ 0 → k ≤ row_count s → lower < 256 → newest s u lower (p - 1) ≢ 0
-  turn-stands a b c z l r e = next-stands (lent rules kinds rights) s h u q k lower z l (next_is a b c) r (ap (λ (n : ℕ). newest s u lower (n - 1)) (sym a) ∙ e)
-
-  pub turn-written : (whole list : List ℕ) (n : ℕ) → p ≡ newest s u q k → row ≡ row_at s (p - 1) → lower ≡ get_or (rests_on (policy_of (without_rights rules kinds)) row) 0 256 → newest s u q k ≢ 0 → k ≤ row_count s → n < 256 → length list ≡ 256 → q < 256
-      → whole ≡ take n list ++ onward (lent rules kinds rights) s u (257 - n) q → whole ≡ take (n + 1) (set list n q) ++ onward (lent rules kinds rights) s u (257 - (n + 1)) lower
-  turn-written whole list n a b c z l r size m w = walk_goes_on (lent rules kinds rights) s h u whole list n k q lower r size m z l (next_is a b c) w

@@ -3,7 +3,7 @@
 #![tactic(auto)]
 
 ghost use Rattle.std.specs.Prelude.{Ok, ◌≡◌, false, ◌&&◌, cond, ◌<◌, ◌≤◌, eqb, length, get_or};
-ghost use Rattle.model.specs.Limits.{roles};
+ghost use Rattle.model.specs.Limits.{roles, state_size, most_rows};
 ghost use Rattle.model.specs.Layout.{row_count};
 ghost use Rattle.model.specs.Calls.{invoke as invoke_call, effective as effective_call, chain as chain_call};
 ghost use Rattle.model.specs.Words.{Sound};
@@ -11,8 +11,10 @@ ghost use Rattle.table.specs.Entries.{without_rights};
 ghost use Rattle.model.specs.Answered.{tables_of};
 ghost use Rattle.inner.specs.Promise.{Answers, AnswersWith};
 ghost use Rattle.rests.specs.Asked.{asked_marks, AskedThrough};
+ghost use Rattle.query.specs.Below.{row_below};
 ghost use Rattle.query.specs.Reached.{rest_reaches, Ready, Tells};
 
+use direct::Holders;
 use model::{
     Answer, FIRST_FACT, LIST_SIZE, Lent, PRIVILEGES, ROLES, ROW_COUNT_AT, Reason, Row, USERS,
 };
@@ -47,7 +49,7 @@ fn is_asked(row: Row, user: u16, asked: &[bool]) -> bool
 #[cycle(certificates_reach_roles_reach)]
 fn roles_reach(
     policy: Lent,
-    having: &[bool; ROLES as usize],
+    having: &Holders,
     state: &[u16],
     asked: &mut [bool],
     k: usize,
@@ -56,9 +58,7 @@ fn roles_reach(
     requires { Ready (without_rights policy.rules.now policy.kinds.now) having.now state.now user × (k ≤ row_count state.now) × (length asked.old ≡ asked_marks) × AskedThrough policy.kinds.now asked.old }
     ensures { Tells (without_rights policy.entry.rules.now policy.entry.kinds.now) having.now state.now user asked.old k false result }
 {
-    let mut i = k;
-    while 0 < i {
-        i -= 1;
+    for i in (0..k).rev() {
         let row = table::row_at(state, i);
         if !is_asked(row, user, asked) {
             continue;
@@ -78,7 +78,7 @@ fn roles_reach(
 #[cycle(certificates_reach_roles_reach)]
 fn certificates_reach(
     policy: Lent,
-    having: &[bool; ROLES as usize],
+    having: &Holders,
     state: &[u16],
     asked: &mut [bool],
     k: usize,
@@ -87,13 +87,9 @@ fn certificates_reach(
     requires { Ready (without_rights policy.rules.now policy.kinds.now) having.now state.now user × (k < row_count state.now) × (length asked.old ≡ asked_marks) × AskedThrough policy.kinds.now asked.old }
     ensures { Tells (without_rights policy.entry.rules.now policy.entry.kinds.now) having.now state.now user asked.old k (rest_reaches (without_rights policy.entry.rules.now policy.entry.kinds.now) having.now state.now user k) result }
 {
-    let own = rests::membership_of(policy.rules, table::row_at(state, k));
-    let conditions = own.conditions;
-    let m = own.count;
-    let mut i: usize = 0;
-    while i < m {
-        rests::ask_condition(policy.kinds, conditions[i], asked);
-        i += 1;
+    let rule = rests::own_rule(policy.rules, table::row_at(state, k));
+    for number in rule.membership() {
+        rests::ask_condition(policy.kinds, *number, asked);
     }
     roles_reach(policy, having, state, asked, k, user)
 }
@@ -115,25 +111,33 @@ pub fn effective(policy: Lent, state: &[u16], user: u16, role: u16, privilege: u
     told(roles_reach(policy, &having, state, &mut asked, n, user))
 }
 
+// The place of the row that row k rests on first: the user's newest before it for the role that it asks for first.
+fn row_below(policy: Lent, state: &[u16], k: usize, user: u16) -> Option<usize>
+    requires { (length state.now ≡ state_size) × (k < most_rows) }
+    ensures { result ≡ row_below (without_rights policy.entry.rules.now policy.entry.kinds.now) state.now user k }
+{
+    let role = rests::next_role(policy, table::row_at(state, k))?;
+    rests::newest_row(state, k, user, role)
+}
+
 // A row rests on earlier rows, so no role is written twice and the list has room for all.
 pub fn chain(policy: Lent, state: &[u16], user: u16, role: u16, list: &mut [u16]) -> Answer
     requires { Sound (tables_of policy) state.now }
     ensures { AnswersWith (tables_of policy.entry) state.now list.old (chain_call user role) result state.now list.new }
 {
-    if user >= USERS || role >= ROLES || list.len() != LIST_SIZE {
+    let fits = list.len() == LIST_SIZE;
+    if user >= USERS || role >= ROLES || !fits {
         return Err(Reason::OutOfRange);
     }
-    let mut k = usize::from(state[ROW_COUNT_AT]);
-    if !table::is_active(state, k, user, role) {
+    let mut next = rests::newest_row(state, usize::from(state[ROW_COUNT_AT]), user, role);
+    if next.is_none() {
         return Err(Reason::NotActive);
     }
-    let mut q = role;
     let mut n: usize = 0;
-    while q < ROLES {
-        k = rests::newest_row(state, k, user, q) - 1;
-        list[n] = q;
+    while let Some(k) = next {
+        list[n] = table::row_at(state, k).role;
         n += 1;
-        q = rests::next_role(policy.rules, policy.kinds, table::row_at(state, k));
+        next = row_below(policy, state, k, user);
     }
     table::zero(list, n, LIST_SIZE);
     Ok(n as u16)

@@ -13,17 +13,13 @@ decreases-certificates_reach l = l.k * 2 + 1
 abbrev pub decreases-roles_reach : goal.decreases-roles_reach
 decreases-roles_reach l = l.k * 2
 
-abbrev pub invariant-certificates_reach-loop-i : goal.invariant-certificates_reach-loop-i
-invariant-certificates_reach-loop-i l = (l.i ≤ l.m) × Grown l.policy.kinds.now l.initial.asked l.asked l.conditions l.i × ((j : ℕ) → j < l.i → HasAsked l.policy.kinds.now l.asked (get_or l.conditions j 0))
-
-abbrev pub decreases-certificates_reach-loop-i : goal.decreases-certificates_reach-loop-i
-decreases-certificates_reach-loop-i l = l.m - l.i
+abbrev pub invariant-certificates_reach-loop-number : goal.invariant-certificates_reach-loop-number
+invariant-certificates_reach-loop-number l =
+    Grown l.policy.kinds.now l.initial.asked l.asked l.number-items l.number-index × ((j : ℕ) → j < l.number-index → HasAsked l.policy.kinds.now l.asked (get_or l.number-items j 0))
 
 abbrev pub invariant-roles_reach-loop-i : goal.invariant-roles_reach-loop-i
-invariant-roles_reach-loop-i l =
-    (l.i ≤ l.k) × (length l.asked ≡ 384) × AskedThrough l.policy.kinds.now l.asked
-    × ((r : Bool) → Tells (without_rights l.policy.rules.now l.policy.kinds.now) l.having l.state l.user l.asked l.i false r
-    → Tells (without_rights l.policy.rules.now l.policy.kinds.now) l.having l.state l.user l.initial.asked l.k false r)
-
-abbrev pub decreases-roles_reach-loop-i : goal.decreases-roles_reach-loop-i
-decreases-roles_reach-loop-i l = l.i
+invariant-roles_reach-loop-i l = record {
+  size : length l.asked ≡ 384;
+  closed : AskedThrough l.policy.kinds.now l.asked;
+  told : (r : Bool) → Tells (without_rights l.policy.rules.now l.policy.kinds.now) l.having l.state l.user l.asked l.i false r → Tells (without_rights l.policy.rules.now l.policy.kinds.now) l.having l.state l.user l.initial.asked l.k false r;
+}

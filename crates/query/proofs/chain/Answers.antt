@@ -1,17 +1,13 @@
-use mathlib.Core.Path.{refl, sym, ◌∙◌}
-use mathlib.Core.List.{[], ◌∷◌}
-use native.Mathlib.Omega.{arith}
-use lib.Dec.{eqb}
-use lib.ListN.{length, length-set}
-use borrow.Author.Tests.{le-ltb, ne_eqb}
-use Rattle.model.specs.Calls.{is_user, is_role}
-use Rattle.inner.specs.Promise.{lent}
-use Rattle.inner.proofs.Codes.{sound-sized, out_of_range_lem}
-use Rattle.rests.proofs.Newest.{newest-within}
-use Rattle.query.proofs.Chaining.{walk_starts, walk_ends}
-use Rattle.query.proofs.Listing.{active-newest, chain-no-user, chain-no-role, chain-no-list, chain_inactive, chain-written, turn-stands, turn-written}
-use borrow.Author.Rules.{rules}
-use Rattle.query.proofs.chain.Goals.{then-user-ge-USERS-via-then-user-ge-USERS, then-user-ge-USERS-via-else-user-ge-USERS+then-role-ge-ROLES, then-user-ge-USERS-via-else-user-ge-USERS+else-role-ge-ROLES+then-list-ne-LIST_SIZE}
+use mathlib.Core.Path.{subst⁻¹}
+use lib.ListN.{set}
+use Rattle.std.proofs.Common.{◌≡◌, ◌+◌, suc, not, ap, subst, ◌∙◌, arith}
+use Rattle.model.specs.declared.Row.{Row}
+use Rattle.table.specs.Entries.{without_rights}
+use Rattle.inner.proofs.Codes.{sound-sized}
+use Rattle.rests.proofs.Newest.{newest-active, newest_some}
+use Rattle.query.proofs.Listing.{chain-no-user, chain-no-role, chain-no-list, chain_inactive, chain-written}
+use Rattle.query.proofs.Walk.{Walking, reach, none_newest, some_newest, row_within, walk-begins, walk-steps, walk-over, walk-short, few, stands}
+use Rattle.query.proofs.chain.Goals.{then-user-ge-USERS-via-then-user-ge-USERS, then-user-ge-USERS-via-else-user-ge-USERS+then-role-ge-ROLES, then-user-ge-USERS-via-else-user-ge-USERS+else-role-ge-ROLES+then-not-fits}
 use Rattle.query.proofs.chain.Goals as goal
 
 pub returns-then-user-ge-USERS : goal.returns-then-user-ge-USERS
@@ -19,38 +15,49 @@ returns-then-user-ge-USERS c =
     elim c.then-user-ge-USERS.branch [
       | then-user-ge-USERS-via-then-user-ge-USERS w ↦ chain-no-user _ _ _ _ _ c.requires _ _ w.if-user-ge-USERS.true
       | then-user-ge-USERS-via-else-user-ge-USERS+then-role-ge-ROLES w ↦ chain-no-role _ _ _ _ _ c.requires _ _ w.if-role-ge-ROLES.true
-      | then-user-ge-USERS-via-else-user-ge-USERS+else-role-ge-ROLES+then-list-ne-LIST_SIZE w ↦ chain-no-list _ _ _ _ _ c.requires _ _ w.if-list-ne-LIST_SIZE.true
+      | then-user-ge-USERS-via-else-user-ge-USERS+else-role-ge-ROLES+then-not-fits w ↦ chain-no-list _ _ _ _ _ c.requires _ _ w.if-not-fits.true
     ]
 
 pub bounds-state-64 : goal.bounds-state-64
 bounds-state-64 c = omega (arith, (sound-sized _ c.args.state.now c.requires).size)
 
-pub is_active-requires : goal.is_active-requires
-is_active-requires c = ((sound-sized _ c.args.state.now c.requires).size, omega (arith, c.from-k.ensures, (sound-sized _ c.args.state.now c.requires).rows))
+pub newest_row-next-requires : goal.newest_row-next-requires
+newest_row-next-requires c = let z = sound-sized _ c.args.state.now c.requires in (z.size, omega (arith, z.rows, c.from.ensures))
 
-pub returns-then-not-is_active : goal.returns-then-not-is_active
-returns-then-not-is_active c = chain_inactive c.args.policy.rules.now c.args.policy.kinds.now c.args.policy.rights.now c.args.state.now c.args.list.now c.requires c.args.user c.args.role c.if-user-ge-USERS.false c.if-role-ge-ROLES.false c.if-list-ne-LIST_SIZE.false c.from-k.result c.from-k.ensures (sym c.is_active.ensures ∙ c.if-not-is_active.true)
+pub returns-then-is_none : goal.returns-then-is_none
+returns-then-is_none c =
+    chain_inactive _ _ _ _ _ c.requires c.args.user c.args.role c.if-user-ge-USERS.false c.if-role-ge-ROLES.false c.if-not-fits.false c.from.result c.from.ensures
+    (newest-active c.args.state.now c.args.user c.args.role c.from.result (none_newest _ _ c.newest_row-next.ensures (c.is_none.ensures ∙ ap not c.if-is_none.true)))
 
-pub loop-q-init : goal.loop-q-init
-loop-q-init c = (omega (arith, c.from-k.ensures), c.if-list-ne-LIST_SIZE.false, (λ _. active-newest c.args.state.now c.args.user c.args.role c.from-k.result (sym c.is_active.ensures ∙ c.if-not-is_active.false)), walk_starts (lent c.args.policy.rules.now c.args.policy.kinds.now c.args.policy.rights.now) c.args.state.now c.requires c.args.user c.args.role c.args.list.now c.if-role-ge-ROLES.false)
-
-pub newest_row-k-requires : goal.newest_row-k-requires
-newest_row-k-requires c = ((sound-sized _ c.args.state.now c.requires).size, omega (arith, (sound-sized _ c.args.state.now c.requires).rows))
-
-pub bounds-list-n : goal.bounds-list-n
-bounds-list-n c = omega (arith, (sound-sized _ c.args.state.now c.requires).rows, c.loop-q.invariant.1, newest-within c.args.state.now c.args.user c.loop-q.q c.loop-q.k, c.loop-q.invariant.2 c.loop-q-test.true)
+pub loop-next-init : goal.loop-next-init
+loop-next-init c =
+    walk-begins c.args.policy.rules.now c.args.policy.kinds.now c.args.policy.rights.now c.args.state.now c.requires c.args.user c.args.role c.args.list.now c.newest_row-next.result c.from.result c.from.ensures c.newest_row-next.ensures
+    (some_newest _ _ c.newest_row-next.ensures (c.is_none.ensures ∙ ap not c.if-is_none.false)) c.if-role-ge-ROLES.false c.if-not-fits.false
 
 pub row_at-requires : goal.row_at-requires
-row_at-requires c = ((sound-sized _ c.args.state.now c.requires).size, omega (arith, (sound-sized _ c.args.state.now c.requires).rows, c.newest_row-k.ensures, newest-within c.args.state.now c.args.user c.loop-q.q c.loop-q.k, c.loop-q.invariant.2 c.loop-q-test.true))
+row_at-requires c = ((sound-sized _ c.args.state.now c.requires).size, stands c.args.policy.rules.now c.args.policy.kinds.now c.args.policy.rights.now c.args.state.now c.requires c.args.user c.args.role c.loop-next.list c.loop-next.n c.in-Some.k (subst (Walking c.args.policy.rules.now c.args.policy.kinds.now c.args.policy.rights.now c.args.state.now c.args.user c.args.role c.loop-next.list c.loop-next.n) c.in-Some.is c.loop-next.invariant))
 
-pub loop-q-smaller : goal.loop-q-smaller
-loop-q-smaller c = omega (arith, c.newest_row-k.ensures, newest-within c.args.state.now c.args.user c.loop-q.q c.loop-q.k, c.loop-q.invariant.2 c.loop-q-test.true)
+pub bounds-list-n : goal.bounds-list-n
+bounds-list-n c = omega (arith, c.loop-next.invariant.size, few c.args.policy.rules.now c.args.policy.kinds.now c.args.policy.rights.now c.args.state.now c.requires c.args.user c.args.role c.loop-next.list c.loop-next.n c.in-Some.k (subst (Walking c.args.policy.rules.now c.args.policy.kinds.now c.args.policy.rights.now c.args.state.now c.args.user c.args.role c.loop-next.list c.loop-next.n) c.in-Some.is c.loop-next.invariant))
 
-pub loop-q-preserved : goal.loop-q-preserved
-loop-q-preserved c = (omega (arith, c.newest_row-k.ensures, newest-within c.args.state.now c.args.user c.loop-q.q c.loop-q.k, c.loop-q.invariant.2 c.loop-q-test.true), simp length-set c.loop-q.invariant.1, turn-stands c.args.policy.rules.now c.args.policy.kinds.now c.args.policy.rights.now c.args.state.now c.requires c.args.user c.loop-q.q c.loop-q.k c.newest_row-k.result c.next_role-q.result c.row_at.result c.newest_row-k.ensures c.row_at.ensures c.next_role-q.ensures (c.loop-q.invariant.2 c.loop-q-test.true) (omega arith), turn-written c.args.policy.rules.now c.args.policy.kinds.now c.args.policy.rights.now c.args.state.now c.requires c.args.user c.loop-q.q c.loop-q.k c.newest_row-k.result c.next_role-q.result c.row_at.result _ c.loop-q.list c.loop-q.n c.newest_row-k.ensures c.row_at.ensures c.next_role-q.ensures (c.loop-q.invariant.2 c.loop-q-test.true) (omega arith) (omega (arith, (sound-sized _ c.args.state.now c.requires).rows, newest-within c.args.state.now c.args.user c.loop-q.q c.loop-q.k, c.loop-q.invariant.2 c.loop-q-test.true)) c.loop-q.invariant.1 c.loop-q-test.true c.loop-q.invariant.3)
+pub row_below-next-requires : goal.row_below-next-requires
+row_below-next-requires c = ((sound-sized _ c.args.state.now c.requires).size, stands c.args.policy.rules.now c.args.policy.kinds.now c.args.policy.rights.now c.args.state.now c.requires c.args.user c.args.role c.loop-next.list c.loop-next.n c.in-Some.k (subst (Walking c.args.policy.rules.now c.args.policy.kinds.now c.args.policy.rights.now c.args.state.now c.args.user c.args.role c.loop-next.list c.loop-next.n) c.in-Some.is c.loop-next.invariant))
+
+pub loop-next-smaller : goal.loop-next-smaller
+loop-next-smaller c =
+    let from : reach c.loop-next.next ≡ suc c.in-Some.k = ap reach c.in-Some.is in
+    omega (arith, row_within (without_rights c.args.policy.rules.now c.args.policy.kinds.now) c.args.state.now c.args.user c.in-Some.k c.row_below-next.result c.row_below-next.ensures)
+
+pub loop-next-preserved : goal.loop-next-preserved
+loop-next-preserved c =
+    subst⁻¹ (λ (r : Row). Walking c.args.policy.rules.now c.args.policy.kinds.now c.args.policy.rights.now c.args.state.now c.args.user c.args.role (set c.loop-next.list c.loop-next.n r.role) (c.loop-next.n + 1) c.row_below-next.result) c.row_at.ensures
+    (walk-steps c.args.policy.rules.now c.args.policy.kinds.now c.args.policy.rights.now c.args.state.now c.requires c.args.user c.args.role c.loop-next.list c.loop-next.n c.in-Some.k (subst (Walking c.args.policy.rules.now c.args.policy.kinds.now c.args.policy.rights.now c.args.state.now c.args.user c.args.role c.loop-next.list c.loop-next.n) c.in-Some.is c.loop-next.invariant) c.row_below-next.result c.row_below-next.ensures)
 
 pub zero-requires : goal.zero-requires
-zero-requires c = (omega (arith, (sound-sized _ c.args.state.now c.requires).rows), omega (arith, c.loop-q.invariant.1, (sound-sized _ c.args.state.now c.requires).rows))
+zero-requires c = (walk-short c.args.policy.rules.now c.args.policy.kinds.now c.args.policy.rights.now c.args.state.now c.requires c.args.user c.args.role c.loop-next.list c.loop-next.n c.loop-next.next c.loop-next.invariant, omega (arith, c.loop-next.invariant.size))
 
 pub returns : goal.returns
-returns c = chain-written c.args.policy.rules.now c.args.policy.kinds.now c.args.policy.rights.now c.args.state.now c.args.list.now c.requires c.args.user c.args.role c.if-user-ge-USERS.false c.if-role-ge-ROLES.false c.if-list-ne-LIST_SIZE.false c.from-k.result c.from-k.ensures c.loop-q.list _ c.loop-q.n (sym c.is_active.ensures ∙ c.if-not-is_active.false) (omega (arith, (sound-sized _ c.args.state.now c.requires).rows)) c.loop-q.invariant.1 (walk_ends (lent c.args.policy.rules.now c.args.policy.kinds.now c.args.policy.rights.now) c.args.state.now c.requires c.args.user _ c.loop-q.list c.loop-q.n c.loop-q.q (omega arith) c.loop-q.invariant.3) c.zero.ensures
+returns c =
+    chain-written _ _ _ _ _ c.requires c.args.user c.args.role c.if-user-ge-USERS.false c.if-role-ge-ROLES.false c.if-not-fits.false c.from.result c.from.ensures c.loop-next.list _ c.loop-next.n
+    (newest_some c.args.state.now c.args.user c.args.role c.from.result (some_newest _ _ c.newest_row-next.ensures (c.is_none.ensures ∙ ap not c.if-is_none.false)))
+    (walk-short c.args.policy.rules.now c.args.policy.kinds.now c.args.policy.rights.now c.args.state.now c.requires c.args.user c.args.role c.loop-next.list c.loop-next.n c.loop-next.next c.loop-next.invariant) c.loop-next.invariant.size (walk-over c.args.policy.rules.now c.args.policy.kinds.now c.args.policy.rights.now c.args.state.now c.requires c.args.user c.args.role c.loop-next.list c.loop-next.n (subst (Walking c.args.policy.rules.now c.args.policy.kinds.now c.args.policy.rights.now c.args.state.now c.args.user c.args.role c.loop-next.list c.loop-next.n) c.in_default.is c.loop-next.invariant)) c.zero.ensures

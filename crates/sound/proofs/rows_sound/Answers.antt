@@ -11,4 +11,4 @@ pub judge_rows-verdicts-requires : goal.judge_rows-verdicts-requires
 judge_rows-verdicts-requires c = ranges (rules_only c.args.policy.rules.now) c.args.state.now c.requires.0 c.requires.1 (sym c.rows_fit.ensures ∙ c.if-not-rows_fit.false)
 
 pub returns : goal.returns
-returns c = let policy = c.args.policy in c.each_stays.ensures ∙ rows_judged policy.rules.now policy.kinds.now c.args.state.now _ _ c.wide.ensures c.requires.0 (sym c.rows_fit.ensures ∙ c.if-not-rows_fit.false) c.judge_rows-verdicts.ensures
+returns c = let policy = c.args.policy in c.each_stays.ensures ∙ rows_judged policy.rules.now policy.kinds.now c.args.state.now _ _ c.from.ensures c.requires.0 (sym c.rows_fit.ensures ∙ c.if-not-rows_fit.false) c.judge_rows-verdicts.ensures
