@@ -11,6 +11,9 @@ use Rattle.model.specs.Lists.{every, filled_to}
 use Rattle.model.proofs.Tests.{is_true, of_true, each}
 use Rattle.program.specs.Text.{value_of, said}
 use Rattle.program.specs.Vocabulary.{words, word_of, numbered}
+use Rattle.program.specs.Said.{number_of}
+use Rattle.program.specs.declared.Word.{Word}
+use Rattle.program.specs.declared.Word.TheVariants.{Rule, Kind, Right, Activate, Appoint, Revoke, Withdraw, Env, Logout, Invoke, Effective}
 use Rattle.program.specs.Lines.{Line, most_numbers, unknown, line_clauses, line_from, line_of_fields, line_of}
 
 abbrev Counted : Line → Type 0
@@ -51,3 +54,17 @@ fields-known (first ∷ arguments) = go (every (line_clauses (word_of first) arg
 pub known : (bytes : List ℕ) → (line_of bytes).word ≤ words
 unfolding line_of
 known bytes = fields-known (said bytes)
+
+-- each word of code has a number of the vocabulary's
+pub named_known : (word : Word) → number_of word < words
+named_known Rule = omega arith
+named_known Kind = omega arith
+named_known Right = omega arith
+named_known Activate = omega arith
+named_known Appoint = omega arith
+named_known Revoke = omega arith
+named_known Withdraw = omega arith
+named_known Env = omega arith
+named_known Logout = omega arith
+named_known Invoke = omega arith
+named_known Effective = omega arith
