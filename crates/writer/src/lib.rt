@@ -3,12 +3,11 @@
 #![tactic(auto)]
 
 ghost use Rattle.std.specs.Prelude.{◌≡◌, [], ◌∷◌, ◌+◌, ◌<◌, ◌≤◌, length};
-ghost use Rattle.model.specs.Answered.{code, second};
 ghost use Rattle.program.specs.Text.{cr, lf, decimal};
 ghost use Rattle.program.specs.Program.{answer_record, bad_record};
 ghost use Rattle.writer.specs.Writing.{Wrote};
 
-use model::Answer;
+use model::Reply;
 use program::DIGIT_ZERO;
 
 // The bytes that are lent, and the place behind what is written.
@@ -59,16 +58,14 @@ impl<'a> Writer<'a> {
     }
 
     // "one record `code,second` for each event". Each number is below 65,536, so five digits are the most.
-    pub fn write_answer(&mut self, answer: Answer)
+    pub fn write_answer(&mut self, reply: Reply)
         requires { self.old.at + 13 ≤ length self.old.out.now }
         ensures same_bytes { self.new.out.ghost_name ≡ self.old.out.ghost_name }
-        ensures wrote { Wrote self.old.out.now self.new.out.now self.old.at (answer_record (code answer) (second answer)) self.new.at }
+        ensures wrote { Wrote self.old.out.now self.new.out.now self.old.at (answer_record reply.code reply.second) self.new.at }
     {
-        let code = answer.err().map_or(0, u16::from);
-        let second = answer.unwrap_or(0);
-        self.write_decimal(usize::from(code));
+        self.write_decimal(reply.code as usize);
         self.write(b",");
-        self.write_decimal(usize::from(second));
+        self.write_decimal(reply.second as usize);
         self.write_end();
     }
 
