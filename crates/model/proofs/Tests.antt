@@ -285,6 +285,3 @@ past number low (suc n) h none = next (past number low n h none.0) none.1
   where
     next : low + n ≤ number → (number ≡ low + n → ⊥) → low + suc n ≤ number
     next l e = omega arith
-
-pub the_last : (number low n : ℕ) → low ≤ number → number < suc (low + n) → NoneOf number low n → number ≡ low + n
-the_last number low n h k none = let l = past number low n h none in omega arith

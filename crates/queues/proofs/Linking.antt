@@ -1,5 +1,5 @@
 -- Queues from the last entry to the first: none is queued yet, one entry more; and what a walk along a queue passes over.
-use Prim.Native.Nat.{ℕ, ◌+◌, ◌-◌, ◌≤◌, ◌<◌}
+use Prim.Native.Nat.{ℕ, ◌+◌, ◌≤◌, ◌<◌}
 use mathlib.Core.Path.{◌≡◌, refl, sym, ap, ◌∙◌, subst, subst⁻¹}
 use mathlib.Core.Bool.{Bool, true, false, cond}
 use mathlib.Core.Logic.{◌≢◌, ◌⊎◌, inl, inr}
@@ -121,8 +121,3 @@ module _ {s : List ℕ} {place n : ℕ} {q : Queues} (queued : Queued s place n 
   pub link_behind : {b a k : ℕ} {next : Option ℕ} → FirstAt s place n b a k → next ≡ entry_behind q k → Link s place n b (k + 1) next
   link_behind {b} {a} {k} l e =
       subst⁻¹ (Link s place n b (k + 1)) e (subst (λ (c : ℕ). Link s place n c (k + 1) (entry_behind q k)) l.there (queued.behind.goes_on k (omega arith) l.within))
-
--- each step makes shorter what is left of a walk
-pub link_shorter : (s : List ℕ) (place n b k : ℕ) (next : Option ℕ) → k < n → Link s place n b (k + 1) next → n - reach n next < n - k
-link_shorter s place n b k None l x = omega arith
-link_shorter s place n b k (Some j) l x = omega (arith, x.ahead)

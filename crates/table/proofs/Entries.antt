@@ -1,8 +1,8 @@
 -- The laws by which loops over tables are proved: one entry more, an entry found, an entry missed; what stands at each place; and
 -- what a well formed state keeps to.
 use Prim.Native.Nat.{ℕ, zero, suc, ◌+◌, ◌*◌, ◌/◌, ◌≤◌, ◌<◌}
-use mathlib.Core.Path.{◌≡◌, refl, sym, ap, ◌∙◌, subst}
-use mathlib.Core.Bool.{Bool, true, false, ◌&&◌, ◌||◌}
+use mathlib.Core.Path.{◌≡◌, sym, ap, ◌∙◌, subst}
+use mathlib.Core.Bool.{Bool, true, false, ◌||◌}
 use mathlib.Core.Logic.{◌⊎◌, inl, inr}
 use mathlib.Core.List.{List, [], ◌∷◌, ◌++◌, Memᴰ}
 use native.Mathlib.Omega.{arith}
@@ -10,12 +10,12 @@ use native.Mathlib.Nat.{suc-mul, zero-mul, add_comm}
 use native.Mathlib.Numerals.{add-one}
 use lib.Dec.{T}
 use lib.ListN.{length, get_or, take, drop, replicate, length-replicate, get_or-eq_default, length-map}
-use lib.Seq.{get_or-take, get_or-drop, drop-drop, take-suc, ext_get_or}
+use lib.Seq.{get_or-take, get_or-drop, drop-drop, ext_get_or}
 use Rattle.std.specs.Array.{AllOfLen}
-use Rattle.model.specs.Lists.{any, all, rows_of}
+use Rattle.model.specs.Lists.{any, rows_of}
 use Rattle.model.specs.Layout.{row_from, row_numbers}
 use Rattle.model.specs.Sound.{well_formed}
-use Rattle.model.proofs.Tests.{lt_or_ge, all_append, at_place, is_true, of_true, any_append, of_any, all_of, among_first, repeated}
+use Rattle.model.proofs.Tests.{lt_or_ge, at_place, is_true, of_true, any_append, of_any, repeated}
 use Rattle.model.proofs.Numbers.{length-rows, formed_size, formed_rows, formed_certificates}
 use Rattle.table.specs.Entries.{entry, entries, right_at, row_at, first_rows, certificate_at, Sized}
 
@@ -72,33 +72,6 @@ rows_more s k = entries_next row_from 3 (row_numbers s) k
 -- so many numbers by default
 pub zeros : (xs : List ℕ) (n : ℕ) → AllOfLen (λ (x : ℕ). x ≡ 0) xs n → xs ≡ replicate n 0
 zeros xs n z = ext_get_or 0 xs (replicate n 0) (z.long ∙ sym (length-replicate n 0)) (λ i h. z.at i 0 (omega (arith, z.long)) ∙ sym (repeated 0 n i))
-
--- ── a loop that looks for an element that fails, over a list by its places ──
-
-module _ {A : Type 0} (test : A → Bool) where
-  all_last : (xs : List A) (x : A) → all test xs ≡ true → test x ≡ true → all test (xs ++ (x ∷ [])) ≡ true
-  all_last xs x a b = all_append test xs (x ∷ []) ∙ (λ i. a i && (b i && true))
-
-  all_spoilt : (xs : List A) (x : A) → Memᴰ x xs → test x ≡ false → all test xs ≡ false
-  all_spoilt xs x m e = go (all test xs) refl
-    where
-      go : (b : Bool) → all test xs ≡ b → all test xs ≡ false
-      go true q = absurd (subst T e (all_of test xs (of_true (all test xs) q) x m))
-      go false q = q
-
-  -- the first j elements
-  pub all-next : (l : List A) (d : A) (j : ℕ) → j < length l → all test (take j l) ≡ true → test (get_or l j d) ≡ true → all test (take (j + 1) l) ≡ true
-  all-next l d j h a b = ap (λ (n : ℕ). all test (take n l)) (add-one j) ∙ ap (all test) (take-suc l j d h) ∙ all_last (take j l) (get_or l j d) a b
-
-  pub all_miss : (l : List A) (d : A) (n j : ℕ) → j < n → j < length l → test (get_or l j d) ≡ false → all test (take n l) ≡ false
-  all_miss l d n j h k e = all_spoilt (take n l) (get_or l j d) (among_first l n j d h k) e
-
-module _ {A : Type 0} (from : List ℕ → A) (width : ℕ) where
-  pub entries-all-next : (test : A → Bool) (table : List ℕ) (j : ℕ) → all test (entries from width table j) ≡ true → test (entry from width table j) ≡ true → all test (entries from width table (j + 1)) ≡ true
-  entries-all-next test table j a b = ap (all test) (entries_more from width table j) ∙ all_last test (entries from width table j) (entry from width table j) a b
-
-  pub entries_all_miss : (test : A → Bool) (table : List ℕ) (n j : ℕ) → j < n → test (entry from width table j) ≡ false → all test (entries from width table n) ≡ false
-  entries_all_miss test table n j h e = all_spoilt test (entries from width table n) (entry from width table j) (entry-member from width table n j h) e
 
 -- ── what stands at each place ──
 

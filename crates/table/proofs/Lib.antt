@@ -2,5 +2,4 @@ pub mod Entries
 pub mod Worlds
 pub mod Zeros
 pub mod Form
-pub mod Clauses
 pub mod Passes

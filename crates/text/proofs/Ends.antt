@@ -23,16 +23,6 @@ module _ (test : List ℕ → Bool) where
   found : (l : List ℕ) (b : ℕ) (t : List ℕ) → l ≡ b ∷ t → test l ≡ true → bytes_before test l ≡ 0
   found l b t e f = ap (bytes_before test) e ∙ ap (λ (x : Bool). cond x 0 (suc (bytes_before test t))) (sym (ap test e) ∙ f)
 
-  pub end_more : (s : List ℕ) (i : ℕ) → i < length s → test (drop i s) ≡ false → end_from test s (i + 1) ≡ end_from test s i
-  end_more s i h e =
-      let r : bytes_before test (drop i s) ≡ suc (bytes_before test (drop (suc i) s)) = passed (drop i s) (get_or s i 0) (drop (suc i) s) (drop-cons s i 0 h) e in
-      rw add-one (omega (arith, r))
-
-  pub end_stop : (s : List ℕ) (i : ℕ) → i < length s → test (drop i s) ≡ true → end_from test s i ≡ i
-  end_stop s i h e =
-      let r : bytes_before test (drop i s) ≡ 0 = found (drop i s) (get_or s i 0) (drop (suc i) s) (drop-cons s i 0 h) e in
-      omega (arith, r)
-
   before_le : (l : List ℕ) → bytes_before test l ≤ length l
   before_le [] = omega arith
   before_le (b ∷ l) = go (before_le l) (test (b ∷ l))
@@ -43,9 +33,6 @@ module _ (test : List ℕ → Bool) where
 
   end_within : (s : List ℕ) (i end : ℕ) → end ≡ end_from test s i → i ≤ length s → Within s i end
   end_within s i end e h = let l = before_le (drop i s) in record { ordered = omega arith; inside = omega (arith, l, length-drop i s) }
-
-  pub end_past : (s : List ℕ) (i : ℕ) → i ≤ length s → length s ≤ i → end_from test s i ≡ i
-  end_past s i h l = let w = end_within s i (end_from test s i) refl h in omega arith
 
 -- ── an end as `position` finds it ──
 
