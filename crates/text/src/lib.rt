@@ -120,18 +120,34 @@ fn word_of(field: &[u8]) -> Option<Word>
     WORDS.iter().find(|word| says(field, **word)).copied()
 }
 
+// The least and the greatest number of fields behind each word, in the vocabulary's order.
+const FIELD_COUNTS: [(u16, u16); 11] = [
+    (2, 10),
+    (2, 6),
+    (2, 2),
+    (2, 2),
+    (3, 3),
+    (4, 4),
+    (3, 3),
+    (2, 2),
+    (1, 1),
+    (2, 2),
+    (3, 3),
+];
+
+// The place of a word in the vocabulary.
+fn place_of(word: Word) -> usize
+    ensures { result ≡ word_number word }
+{
+    word as usize
+}
+
 // The word may have that many fields behind it.
 fn count_fits(word: Word, count: u16) -> bool
     ensures { result ≡ (leb (numbered (word_number word)).least count && leb count (numbered (word_number word)).greatest) }
 {
-    match word {
-        Word::Rule => matches!(count, 2..=10),
-        Word::Kind => matches!(count, 2..=6),
-        Word::Right | Word::Activate | Word::Env | Word::Invoke => count == 2,
-        Word::Appoint | Word::Withdraw | Word::Effective => count == 3,
-        Word::Revoke => count == 4,
-        Word::Logout => count == 1,
-    }
+    let (least, greatest) = FIELD_COUNTS[place_of(word)];
+    least <= count && count <= greatest
 }
 
 // The line of a word whose field ends at `from`, with the fields behind it.
