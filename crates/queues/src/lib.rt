@@ -15,7 +15,7 @@ const MOST_ENTRIES: usize = 256;
 const WIDTH: usize = 3;
 
 // Which queue the user's entries are in.
-fn queue_of(user: u16) -> usize
+pub fn queue_of(user: u16) -> usize
     ensures few { result < queues }
     ensures own { result ≡ queue user }
 {
