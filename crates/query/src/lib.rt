@@ -10,14 +10,13 @@ ghost use Rattle.model.specs.Words.{Sound};
 ghost use Rattle.table.specs.Entries.{without_rights};
 ghost use Rattle.model.specs.Answered.{tables_of};
 ghost use Rattle.inner.specs.Promise.{Answers, AnswersWith};
-ghost use Rattle.rests.specs.Asked.{asked_marks, AskedThrough};
+ghost use Rattle.rests.specs.Asked.{AskedThrough};
 ghost use Rattle.query.specs.Below.{row_below};
 ghost use Rattle.query.specs.Reached.{rest_reaches, Ready, Tells};
 
 use direct::Holders;
-use model::{
-    Answer, FIRST_FACT, LIST_SIZE, Lent, PRIVILEGES, ROLES, ROW_COUNT_AT, Reason, Row, USERS,
-};
+use model::{Answer, LIST_SIZE, Lent, PRIVILEGES, ROLES, ROW_COUNT_AT, Reason, Row, USERS};
+use rests::{ASKED_MARKS, Asked};
 
 // Accepted, with 1 or 0.
 fn told(so: bool) -> Answer
@@ -37,8 +36,8 @@ pub fn invoke(policy: Lent, state: &[u16], user: u16, privilege: u16) -> Answer
 }
 
 // The row is the user's, and its role is asked.
-fn is_asked(row: Row, user: u16, asked: &[bool]) -> bool
-    requires { (length asked.now ≡ asked_marks) × (row.role < roles) }
+fn is_asked(row: Row, user: u16, asked: &Asked) -> bool
+    requires { row.role < roles }
     ensures { result ≡ (eqb row.user user && get_or asked.now row.role false) }
 {
     row.user == user && asked[usize::from(row.role)]
@@ -51,11 +50,11 @@ fn roles_reach(
     policy: Lent,
     having: &Holders,
     state: &[u16],
-    asked: &mut [bool],
+    asked: &mut Asked,
     k: usize,
     user: u16,
 ) -> bool
-    requires { Ready (without_rights policy.rules.now policy.kinds.now) having.now state.now user × (k ≤ row_count state.now) × (length asked.old ≡ asked_marks) × AskedThrough policy.kinds.now asked.old }
+    requires { Ready (without_rights policy.rules.now policy.kinds.now) having.now state.now user × (k ≤ row_count state.now) × AskedThrough policy.kinds.now asked.old }
     ensures { Tells (without_rights policy.entry.rules.now policy.entry.kinds.now) having.now state.now user asked.old k false result }
 {
     for i in (0..k).rev() {
@@ -80,11 +79,11 @@ fn certificates_reach(
     policy: Lent,
     having: &Holders,
     state: &[u16],
-    asked: &mut [bool],
+    asked: &mut Asked,
     k: usize,
     user: u16,
 ) -> bool
-    requires { Ready (without_rights policy.rules.now policy.kinds.now) having.now state.now user × (k < row_count state.now) × (length asked.old ≡ asked_marks) × AskedThrough policy.kinds.now asked.old }
+    requires { Ready (without_rights policy.rules.now policy.kinds.now) having.now state.now user × (k < row_count state.now) × AskedThrough policy.kinds.now asked.old }
     ensures { Tells (without_rights policy.entry.rules.now policy.entry.kinds.now) having.now state.now user asked.old k (rest_reaches (without_rights policy.entry.rules.now policy.entry.kinds.now) having.now state.now user k) result }
 {
     let rule = rests::own_rule(policy.rules, table::row_at(state, k));
@@ -106,7 +105,7 @@ pub fn effective(policy: Lent, state: &[u16], user: u16, role: u16, privilege: u
         return Err(Reason::NotActive);
     }
     let having = direct::roles_having(policy.rights, privilege);
-    let mut asked = [false; FIRST_FACT as usize];
+    let mut asked = [false; ASKED_MARKS];
     asked[usize::from(role)] = true;
     told(roles_reach(policy, &having, state, &mut asked, n, user))
 }

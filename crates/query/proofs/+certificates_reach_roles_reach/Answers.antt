@@ -20,7 +20,6 @@ certificates_reach-returns t c =
 
 pub roles_reach-loop-i-preserved-then-not-is_asked : goal.roles_reach-loop-i-preserved-then-not-is_asked
 roles_reach-loop-i-preserved-then-not-is_asked t c = record {
-  size = c.loop-i.invariant.size;
   closed = c.loop-i.invariant.closed;
   told = λ r h. c.loop-i.invariant.told r (tell_down (without_rights c.args.policy.rules.now c.args.policy.kinds.now) c.args.having.now c.args.state.now c.args.user c.loop-i.asked c.loop-i.i r (omega arith) (tell_other (without_rights c.args.policy.rules.now c.args.policy.kinds.now) c.args.having.now c.args.state.now c.args.user c.loop-i.asked _ c.row_at-row.result c.row_at-row.ensures r (sym c.is_asked.ensures ∙ c.if-not-is_asked.true) h));
 }
@@ -42,7 +41,6 @@ pub roles_reach-loop-i-preserved : goal.roles_reach-loop-i-preserved
 roles_reach-loop-i-preserved t c =
     let grown = c.ask_row.ensures.grown c.args.policy.kinds.now c.loop-i.invariant.closed in
     record {
-      size = grown.size ∙ c.loop-i.invariant.size;
       closed = grown.closed;
       told = λ r h.
       c.loop-i.invariant.told _

@@ -19,7 +19,6 @@ invariant-certificates_reach-loop-number l =
 
 abbrev pub invariant-roles_reach-loop-i : goal.invariant-roles_reach-loop-i
 invariant-roles_reach-loop-i l = record {
-  size : length l.asked ≡ 384;
   closed : AskedThrough l.policy.kinds.now l.asked;
   told : (r : Bool) → Tells (without_rights l.policy.rules.now l.policy.kinds.now) l.having l.state l.user l.asked l.i false r → Tells (without_rights l.policy.rules.now l.policy.kinds.now) l.having l.state l.user l.initial.asked l.k false r;
 }
