@@ -29,12 +29,11 @@ returns-then-not-is_active c =
 pub roles_having-having-requires : goal.roles_having-having-requires
 roles_having-having-requires c = sound-rights _ _ _ _ c.requires
 
+pub invariant_of-asking : goal.invariant_of-asking
+invariant_of-asking c = record { ready = ready _ _ c.roles_having-having.result c.args.state.now c.args.user c.requires }
+
 pub roles_reach-requires : goal.roles_reach-requires
-roles_reach-requires c = (
-  ready (without_rights c.args.policy.rules.now c.args.policy.kinds.now) _ c.roles_having-having.result c.args.state.now c.args.user c.requires,
-  omega (arith, c.from-n.ensures),
-  alone_closed c.from.result (omega (arith, c.from.ensures, c.if-role-ge-ROLES.false)) c.args.policy.kinds.now,
-)
+roles_reach-requires c = (omega (arith, c.from-n.ensures), alone_closed c.from.result (omega (arith, c.from.ensures, c.if-role-ge-ROLES.false)) c.args.policy.kinds.now)
 
 pub returns : goal.returns
 returns c =
