@@ -14,3 +14,4 @@ pub mod Taken
 pub mod Orders
 pub mod Counts
 pub mod Chains
+pub mod InTurn

@@ -3,4 +3,3 @@ pub mod Conditions
 pub mod Rights
 pub mod Unread
 pub mod Parts
-pub mod InTurn

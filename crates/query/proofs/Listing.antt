@@ -1,27 +1,26 @@
 -- Chain: each answer that the code gives, and what it leaves in the list, is the model's.
-use Prim.Native.Nat.{ℕ, ◌+◌, ◌-◌, ◌≤◌, ◌<◌}
+use Prim.Native.Nat.{ℕ, ◌≤◌, ◌<◌}
 use mathlib.Core.Path.{◌≡◌, refl, sym, ap, ◌∙◌}
 use mathlib.Core.Bool.{true, false, not, true≢false}
 use mathlib.Core.Logic.{◌≢◌}
-use mathlib.Core.List.{List, [], ◌∷◌, ◌++◌}
+use mathlib.Core.List.{List, [], ◌∷◌}
 use native.Mathlib.Omega.{arith}
 use lib.Dec.{T, eqb, lt→ltb}
-use lib.ListN.{length, get_or, take, set, length-take}
+use lib.ListN.{length, get_or, take, length-take}
 use borrow.Author.Tests.{eq-eqb, ne_eqb, le-ltb}
 use Rattle.model.specs.Lists.{every, filled_to}
 use Rattle.model.specs.Limits.{list_size}
 use Rattle.model.specs.Layout.{policy_of, decode, row_count}
-use Rattle.model.specs.Conditions.{active, rests_on}
+use Rattle.model.specs.Conditions.{active}
 use Rattle.model.specs.Chain.{written, some_twice}
 use Rattle.model.specs.Outcome.{judged_first, given}
 use Rattle.model.specs.Calls.{chain, is_user, is_role, chain_on, course_of}
 use Rattle.model.specs.Words.{Sound, none, here, later}
 use Rattle.std.proofs.Common.{Ok, Err}
 use Rattle.model.specs.declared.Reason.TheVariants.{OutOfRange, NotActive}
-use Rattle.model.specs.declared.Row.{Row}
 use Rattle.model.proofs.Tests.{of_true, of_false}
 use Rattle.model.proofs.Numbers.{encode-decode, sound_formed}
-use Rattle.table.specs.Entries.{row_at, first_rows, without_rights}
+use Rattle.table.specs.Entries.{first_rows}
 use Rattle.table.specs.Writes.{Zeroed}
 use Rattle.inner.specs.Promise.{lent, AnswersWith}
 use Rattle.inner.proofs.Codes.{own_refuses, own_accepts, out_of_range_lem, in_range, found, active_now}

@@ -7,7 +7,7 @@ use mathlib.Core.List.{List, [], reverse, Memᴰ}
 use native.Mathlib.Omega.{arith}
 use lib.Dec.{T, eqb, T_not, not_T}
 use borrow.Author.Tests.{eq-eqb, eqb-true}
-use lib.ListN.{length, get_or, set, replicate, length-set, length-replicate}
+use lib.ListN.{length, get_or, set, replicate, length-replicate}
 use Rattle.model.specs.Lists.{any, joined}
 use Rattle.model.specs.Values.{Tables}
 use Rattle.model.specs.Layout.{policy_of, row_count}
@@ -208,9 +208,6 @@ ready t full having s u h =
 -- ── one role is asked at first ──
 
 module _ (w : ℕ) (l : w < 256) where
-  pub alone_size : length (set (replicate 384 false) w true) ≡ 384
-  alone_size = length-set (replicate 384 false) w true ∙ length-replicate 384 false
-
   only_one : (q : ℕ) → get_or (set (replicate 384 false) w true) q false ≡ true → w ≡ q
   only_one q h = go (mark_only (replicate 384 false) w (omega (arith, length-replicate 384 false)) q h)
     where

@@ -1,5 +1,5 @@
 -- The walk of a chain, row by row: what code has written, and the row that it goes on to.
-use Prim.Native.Nat.{ℕ, zero, suc, ◌+◌, ◌-◌, ◌≤◌, ◌<◌}
+use Prim.Native.Nat.{ℕ, suc, ◌+◌, ◌-◌, ◌≤◌, ◌<◌}
 use mathlib.Core.Path.{◌≡◌, refl, sym, ap, ◌∙◌, subst, subst⁻¹}
 use mathlib.Core.Bool.{Bool, true, false, cond}
 use mathlib.Core.Logic.{◌≢◌}
@@ -16,7 +16,7 @@ use Rattle.model.specs.Chain.{written}
 use Rattle.model.specs.Words.{Sound}
 use Rattle.model.specs.declared.Row.{Row}
 use Rattle.model.proofs.Tests.{is_true}
-use Rattle.model.proofs.Support.{is_row-user, is_row-role}
+use Rattle.model.proofs.Support.{is_row-role}
 use Rattle.table.specs.Entries.{row_at, without_rights, lent}
 use Rattle.rests.specs.Newest.{newest, before}
 use Rattle.rests.proofs.Newest.{before_some, before_none, newest-within, row_for_lem}
@@ -24,7 +24,6 @@ use Rattle.rests.proofs.Stepping.{rests_same, some-first, no-first}
 use Rattle.query.specs.Below.{place_for, row_below}
 use Rattle.query.proofs.Chaining.{onward, rests_before, is_role_lem, walk_starts, walk_goes_on, walk_ends}
 use Rattle.inner.proofs.Codes.{sound-sized}
-use mathlib.Core.List.Memᴰ
 
 -- how many rows are left from the next one down, and its role; 256 stands for none
 abbrev pub reach : Option ℕ → ℕ
@@ -169,8 +168,7 @@ module _ (rules kinds rights s : List ℕ) (h : Sound (lent rules kinds rights) 
                   of_user = λ i p. subst (λ (m : ℕ). T (is_row u (row_at s m).role (row_at s m))) (some_is p) (found_user s u lower k j at);
                   walked = subst⁻¹ (λ (r : ℕ). written (policy_of (lent rules kinds rights)) (decode s).rows u 257 q ≡ take (n + 1) (set list n role) ++ onward (lent rules kinds rights) s u (257 - (n + 1)) r) (found_role s u lower k j at) (goes_on lower (sym first));
                 }
-
-    -- ── at the end ──
+            -- ── at the end ──
 
   pub walk-over : (list : List ℕ) (n : ℕ) → Walking rules kinds rights s u q list n None → written (policy_of (lent rules kinds rights)) (decode s).rows u 257 q ≡ take n list
   walk-over list n w = walk_ends (lent rules kinds rights) s h u (written (policy_of (lent rules kinds rights)) (decode s).rows u 257 q) list n 256 (omega arith) w.walked

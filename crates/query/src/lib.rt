@@ -10,14 +10,13 @@ ghost use Rattle.model.specs.Words.{Sound};
 ghost use Rattle.table.specs.Entries.{without_rights};
 ghost use Rattle.model.specs.Answered.{tables_of};
 ghost use Rattle.inner.specs.Promise.{Answers, AnswersWith};
-ghost use Rattle.rests.specs.Asked.{asked_marks, AskedThrough};
+ghost use Rattle.rests.specs.Asked.{AskedThrough};
 ghost use Rattle.query.specs.Below.{row_below};
 ghost use Rattle.query.specs.Reached.{rest_reaches, Ready, Tells};
 
 use direct::Holders;
-use model::{
-    Answer, FIRST_FACT, LIST_SIZE, Lent, PRIVILEGES, ROLES, ROW_COUNT_AT, Reason, Row, USERS,
-};
+use model::{Answer, LIST_SIZE, Lent, PRIVILEGES, ROLES, ROW_COUNT_AT, Reason, Row, USERS};
+use rests::{ASKED_MARKS, Asked};
 
 // Accepted, with 1 or 0.
 fn told(so: bool) -> Answer
@@ -37,61 +36,59 @@ pub fn invoke(policy: Lent, state: &[u16], user: u16, privilege: u16) -> Answer
 }
 
 // The row is the user's, and its role is asked.
-fn is_asked(row: Row, user: u16, asked: &[bool]) -> bool
-    requires { (length asked.now ≡ asked_marks) × (row.role < roles) }
+fn is_asked(row: Row, user: u16, asked: &Asked) -> bool
+    requires { row.role < roles }
     ensures { result ≡ (eqb row.user user && get_or asked.now row.role false) }
 {
     row.user == user && asked[usize::from(row.role)]
 }
 
-// Some role that is asked carries the privilege, in the first k rows. A row rests on earlier rows only, so one pass down the rows meets
-// each role after all that ask for it, and no row is asked twice: a rule may name one role eight times.
-#[cycle(certificates_reach_roles_reach)]
-fn roles_reach(
-    policy: Lent,
-    having: &Holders,
-    state: &[u16],
-    asked: &mut [bool],
-    k: usize,
+// What asking goes by: the tables that are lent, the roles that have the privilege themselves, the state and the user.
+#[derive(Drop)]
+struct Asking<'a> {
+    policy: Lent<'a>,
+    having: &'a Holders,
+    state: &'a [u16],
     user: u16,
-) -> bool
-    requires { Ready (without_rights policy.rules.now policy.kinds.now) having.now state.now user × (k ≤ row_count state.now) × (length asked.old ≡ asked_marks) × AskedThrough policy.kinds.now asked.old }
-    ensures { Tells (without_rights policy.entry.rules.now policy.entry.kinds.now) having.now state.now user asked.old k false result }
-{
-    for i in (0..k).rev() {
-        let row = table::row_at(state, i);
-        if !is_asked(row, user, asked) {
-            continue;
-        }
-        if direct::has_right(having, row.role) {
-            return true;
-        }
-        if !rests::ask_row(policy.rules, row, asked) {
-            return certificates_reach(policy, having, state, asked, i, user);
-        }
-    }
-    false
+    ghost ready: { Ready (without_rights policy.rules.now policy.kinds.now) having.now state.now user },
 }
 
-// Some role that is asked, or on which row k rests, carries the privilege, in the first k rows. The kinds that the row names ask for
-// their prerequisite roles.
-#[cycle(certificates_reach_roles_reach)]
-fn certificates_reach(
-    policy: Lent,
-    having: &Holders,
-    state: &[u16],
-    asked: &mut [bool],
-    k: usize,
-    user: u16,
-) -> bool
-    requires { Ready (without_rights policy.rules.now policy.kinds.now) having.now state.now user × (k < row_count state.now) × (length asked.old ≡ asked_marks) × AskedThrough policy.kinds.now asked.old }
-    ensures { Tells (without_rights policy.entry.rules.now policy.entry.kinds.now) having.now state.now user asked.old k (rest_reaches (without_rights policy.entry.rules.now policy.entry.kinds.now) having.now state.now user k) result }
-{
-    let rule = rests::own_rule(policy.rules, table::row_at(state, k));
-    for number in rule.membership() {
-        rests::ask_condition(policy.kinds, *number, asked);
+impl Asking<'_> {
+    // Some role that is asked carries the privilege, in the first k rows. A row rests on earlier rows only, so one pass down the rows
+    // meets each role after all that ask for it, and no row is asked twice: a rule may name one role eight times.
+    #[cycle(certificates_reach_roles_reach)]
+    fn roles_reach(&self, asked: &mut Asked, k: usize) -> bool
+        requires { (k ≤ row_count self.now.state.now) × AskedThrough self.now.policy.kinds.now asked.old }
+        ensures { Tells (without_rights self.now.policy.rules.now self.now.policy.kinds.now) self.now.having.now self.now.state.now self.now.user asked.old k false result }
+    {
+        for i in (0..k).rev() {
+            let row = table::row_at(self.state, i);
+            if !is_asked(row, self.user, asked) {
+                continue;
+            }
+            if direct::has_right(self.having, row.role) {
+                return true;
+            }
+            if !rests::ask_row(self.policy.rules, row, asked) {
+                return self.certificates_reach(asked, i);
+            }
+        }
+        false
     }
-    roles_reach(policy, having, state, asked, k, user)
+
+    // Some role that is asked, or on which row k rests, carries the privilege, in the first k rows. The kinds that the row names ask for
+    // their prerequisite roles.
+    #[cycle(certificates_reach_roles_reach)]
+    fn certificates_reach(&self, asked: &mut Asked, k: usize) -> bool
+        requires { (k < row_count self.now.state.now) × AskedThrough self.now.policy.kinds.now asked.old }
+        ensures { Tells (without_rights self.now.policy.rules.now self.now.policy.kinds.now) self.now.having.now self.now.state.now self.now.user asked.old k (rest_reaches (without_rights self.now.policy.rules.now self.now.policy.kinds.now) self.now.having.now self.now.state.now self.now.user k) result }
+    {
+        let rule = rests::own_rule(self.policy.rules, table::row_at(self.state, k));
+        for number in rule.membership() {
+            rests::ask_condition(self.policy.kinds, *number, asked);
+        }
+        self.roles_reach(asked, k)
+    }
 }
 
 pub fn effective(policy: Lent, state: &[u16], user: u16, role: u16, privilege: u16) -> Answer
@@ -106,9 +103,15 @@ pub fn effective(policy: Lent, state: &[u16], user: u16, role: u16, privilege: u
         return Err(Reason::NotActive);
     }
     let having = direct::roles_having(policy.rights, privilege);
-    let mut asked = [false; FIRST_FACT as usize];
+    let asking = Asking {
+        policy,
+        having: &having,
+        state,
+        user,
+    };
+    let mut asked = [false; ASKED_MARKS];
     asked[usize::from(role)] = true;
-    told(roles_reach(policy, &having, state, &mut asked, n, user))
+    told(asking.roles_reach(&mut asked, n))
 }
 
 // The place of the row that row k rests on first: the user's newest before it for the role that it asks for first.

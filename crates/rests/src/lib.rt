@@ -10,9 +10,15 @@ ghost use Rattle.model.specs.Layout.{policy_of};
 ghost use Rattle.model.specs.Conditions.{meant, membership, rule_numbered, roles_asked, rests_on};
 ghost use Rattle.table.specs.Entries.{without_rights};
 ghost use Rattle.rests.specs.Newest.{newest, before};
-ghost use Rattle.rests.specs.Asked.{asked_marks, AskedThrough, Known, ConditionAsked, RowAsked};
+ghost use Rattle.rests.specs.Asked.{AskedThrough, Known, ConditionAsked, RowAsked};
 
-use model::{Condition, FIRST_KIND, Lent, ROLES, Row, Rule};
+use model::{Condition, FIRST_FACT, FIRST_KIND, Lent, ROLES, Row, Rule};
+
+// A rule names roles and kinds by the numbers below the first fact's.
+pub const ASKED_MARKS: usize = FIRST_FACT as usize;
+
+// Of each number that names a role or a kind, whether it is asked.
+pub type Asked = [bool; ASKED_MARKS];
 
 // The rule under which the row was granted. What the row rests on are its membership conditions.
 pub fn own_rule(rules: &[u16], row: Row) -> Rule
@@ -60,8 +66,7 @@ pub fn newest_row(state: &[u16], k: usize, user: u16, role: u16) -> Option<usize
 
 // The condition is asked, if that takes no more than its own mark: a role is marked, a kind that is marked has asked already, a fact asks
 // for nothing. Says whether it is.
-fn ask_known(number: u16, asked: &mut [bool]) -> bool
-    requires { length asked.old ≡ asked_marks }
+fn ask_known(number: u16, asked: &mut Asked) -> bool
     ensures { Known asked.old asked.new number result }
 {
     match Condition::from(number) {
@@ -75,8 +80,8 @@ fn ask_known(number: u16, asked: &mut [bool]) -> bool
 }
 
 // A kind asks for its prerequisite roles, and is marked. A role out of range never stands.
-fn ask_kind(kinds: &[u16], kind: u16, asked: &mut [bool])
-    requires { (length asked.old ≡ asked_marks) × (kind < most_kinds) × AskedThrough kinds.now asked.old }
+fn ask_kind(kinds: &[u16], kind: u16, asked: &mut Asked)
+    requires { (kind < most_kinds) × AskedThrough kinds.now asked.old }
     ensures { ConditionAsked kinds.now asked.old asked.new (roles + kind) }
 {
     let row = table::kind_numbered(kinds, usize::from(kind));
@@ -89,8 +94,8 @@ fn ask_kind(kinds: &[u16], kind: u16, asked: &mut [bool])
 }
 
 // What the condition asks for is marked.
-pub fn ask_condition(kinds: &[u16], number: u16, asked: &mut [bool])
-    requires { (length asked.old ≡ asked_marks) × AskedThrough kinds.now asked.old }
+pub fn ask_condition(kinds: &[u16], number: u16, asked: &mut Asked)
+    requires { AskedThrough kinds.now asked.old }
     ensures { ConditionAsked kinds.now asked.old asked.new number }
 {
     if !ask_known(number, asked) {
@@ -99,8 +104,7 @@ pub fn ask_condition(kinds: &[u16], number: u16, asked: &mut [bool])
 }
 
 // What the row rests on is asked, up to the first kind that has not asked yet. Says whether there is none.
-pub fn ask_row(rules: &[u16], row: Row, asked: &mut [bool]) -> bool
-    requires { length asked.old ≡ asked_marks }
+pub fn ask_row(rules: &[u16], row: Row, asked: &mut Asked) -> bool
     ensures { RowAsked (membership (rule_numbered (policy_of (without_rights rules.now [])) row.rule)) asked.old asked.new result }
 {
     let rule = own_rule(rules, row);

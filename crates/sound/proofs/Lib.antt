@@ -4,4 +4,3 @@ pub mod Searching
 pub mod Judged
 pub mod Ranges
 pub mod Forms
-pub mod InTurn

@@ -1,5 +1,5 @@
 use Rattle.model.specs.Answered.{tables_of}
-use Rattle.policy.proofs.InTurn.{second_judged, first-failed}
+use Rattle.model.proofs.InTurn.{second_judged, first-failed}
 use Rattle.policy.proofs.Parts.{policy_parts}
 use Rattle.policy.proofs.policy_sound.Goals as goal
 

@@ -4,7 +4,7 @@ use Rattle.std.specs.Simd.{first_chunks}
 use Rattle.std.proofs.lemmas.Iterator.{YieldsList-from_slice}
 use Rattle.model.proofs.Chains.{all_of_chain}
 use Rattle.policy.specs.Fitting.{first_rights_fit}
-use Rattle.policy.proofs.InTurn.{second_judged, first-failed}
+use Rattle.model.proofs.InTurn.{second_judged, first-failed}
 use Rattle.policy.proofs.Rights.{alone_fits, sixteens_and_rest}
 use Rattle.policy.proofs.rights_fit.Goals as goal
 

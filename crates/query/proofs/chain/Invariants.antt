@@ -1,5 +1,4 @@
 -- The invariant: the walk is what stands in the list and what is still to be written from the next row on, and that row is the user's.
-use Rattle.std.proofs.Common.{ℕ, ◌≡◌}
 use Rattle.query.proofs.Walk.{Walking, reach}
 use Rattle.query.proofs.chain.Given as goal
 

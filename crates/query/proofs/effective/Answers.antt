@@ -3,7 +3,7 @@ use Rattle.table.specs.Entries.{without_rights}
 use Rattle.inner.proofs.Codes.{sound-sized}
 use Rattle.direct.proofs.Having.{sound-rights}
 use Rattle.query.specs.Reached.{reached_in}
-use Rattle.query.proofs.Reaching.{ready, alone_size, alone_closed, alone_tells}
+use Rattle.query.proofs.Reaching.{ready, alone_closed, alone_tells}
 use Rattle.query.proofs.Telling.{effective-no-user, effective-no-role, effective-no-privilege, effective_inactive, effective-told}
 use Rattle.query.proofs.effective.Goals.{then-user-ge-USERS-via-then-user-ge-USERS, then-user-ge-USERS-via-else-user-ge-USERS+then-role-ge-ROLES, then-user-ge-USERS-via-else-user-ge-USERS+else-role-ge-ROLES+then-privilege-ge-PRIVILEGES}
 use Rattle.query.proofs.effective.Goals as goal
@@ -29,13 +29,11 @@ returns-then-not-is_active c =
 pub roles_having-having-requires : goal.roles_having-having-requires
 roles_having-having-requires c = sound-rights _ _ _ _ c.requires
 
+pub invariant_of-asking : goal.invariant_of-asking
+invariant_of-asking c = record { ready = ready _ _ c.roles_having-having.result c.args.state.now c.args.user c.requires }
+
 pub roles_reach-requires : goal.roles_reach-requires
-roles_reach-requires c = (
-  ready (without_rights c.args.policy.rules.now c.args.policy.kinds.now) _ c.roles_having-having.result c.args.state.now c.args.user c.requires,
-  omega (arith, c.from-n.ensures),
-  alone_size c.from.result (omega (arith, c.from.ensures, c.if-role-ge-ROLES.false)),
-  alone_closed c.from.result (omega (arith, c.from.ensures, c.if-role-ge-ROLES.false)) c.args.policy.kinds.now,
-)
+roles_reach-requires c = (omega (arith, c.from-n.ensures), alone_closed c.from.result (omega (arith, c.from.ensures, c.if-role-ge-ROLES.false)) c.args.policy.kinds.now)
 
 pub returns : goal.returns
 returns c =

@@ -13,7 +13,7 @@ bounds-asked-from-in-Kind c = omega (arith, kind_in_range c.args.number c.in-Kin
 pub returns-in-Role : goal.returns-in-Role
 returns-in-Role c =
     let r = role_in_range c.args.number c.in-Role.role c.in-Role.ensures in
-    known-role c.args.asked.now c.args.number c.from-in-Role.result c.requires (c.from-in-Role.ensures ∙ r.0) (omega (arith, r))
+    known-role c.args.asked.now c.args.number c.from-in-Role.result c.told-asked (c.from-in-Role.ensures ∙ r.0) (omega (arith, r))
 
 pub returns-in-Kind : goal.returns-in-Kind
 returns-in-Kind c =

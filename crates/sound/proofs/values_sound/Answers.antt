@@ -2,7 +2,7 @@ use Rattle.std.proofs.Common.{sym, ◌∙◌, arith}
 use Rattle.table.specs.Entries.{kinds_only}
 use Rattle.sound.proofs.Ranges.{certificates_range, kind_count}
 use Rattle.sound.proofs.Unread.{values_parts}
-use Rattle.sound.proofs.InTurn.{second_judged, first-failed}
+use Rattle.model.proofs.InTurn.{second_judged, first-failed}
 use Rattle.sound.proofs.values_sound.Goals as goal
 
 pub rows_sound-requires : goal.rows_sound-requires

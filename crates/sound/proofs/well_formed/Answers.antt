@@ -1,7 +1,7 @@
 use Rattle.std.proofs.Common.{refl}
 use borrow.Author.Tests.{eq-eqb, ne_eqb}
 use Rattle.sound.proofs.Forms.{form_parts}
-use Rattle.sound.proofs.InTurn.{second_judged, first-failed}
+use Rattle.model.proofs.InTurn.{second_judged, first-failed}
 use Rattle.sound.proofs.well_formed.Goals as goal
 
 pub returns-then-state-eq-STATE_SIZE : goal.returns-then-state-eq-STATE_SIZE
