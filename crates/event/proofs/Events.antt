@@ -1,7 +1,7 @@
 -- An event is one call: which it is, that it is judged first, and that it leaves a sound state.
 use Prim.Native.Nat.{ℕ, zero, suc, ◌-◌, ◌≤◌, ◌<◌}
-use mathlib.Core.Path.{◌≡◌, refl, sym, ap, ◌∙◌, subst, subst⁻¹}
-use mathlib.Core.Bool.{Bool, true, false}
+use mathlib.Core.Path.{◌≡◌, refl, ◌∙◌, subst⁻¹}
+use mathlib.Core.Bool.{false}
 use mathlib.Core.Logic.{◌⊎◌, inl, inr}
 use mathlib.Core.List.{List, [], ◌∷◌}
 use native.Mathlib.Omega.{arith}
@@ -12,22 +12,16 @@ use Rattle.model.specs.Layout.{policy_of}
 use Rattle.model.specs.Sound.{sound_policy, sound}
 use Rattle.model.specs.Outcome.{Course, judged_first}
 use Rattle.model.specs.Calls.{Call, fresh, course_of, answer}
-use Rattle.model.specs.Words.{Sound}
-use Rattle.model.specs.declared.Answer.{Answer}
-use Rattle.model.proofs.Tests.{lt_or_ge, of_true}
+use Rattle.model.specs.Answered.{Answer}
+use Rattle.model.specs.declared.Reason.TheVariants.{MalformedPolicy}
+use Rattle.std.proofs.Common.{Err}
+use Rattle.model.proofs.Tests.{lt_or_ge}
 use Rattle.model.proofs.Refusals.{refused_unchanged}
 use Rattle.model.proofs.Accepted.{accepted-sound}
 use Rattle.program.specs.Program.{event_calls, line_call}
-use Rattle.program.specs.declared.Line.{Line}
+use Rattle.program.specs.Lines.{Line}
 use Rattle.inner.specs.Promise.{Answers}
 use Rattle.calls.proofs.Judged.{unsound, no-policy}
-use Rattle.event.specs.SoundIf.{SoundIf}
-
--- ── the call of a line ──
-
-call_is : (l : Line) (w : ℕ) → l.word ≡ w → get_or (event_calls l) (w - 3) fresh ≡ line_call l
-unfolding line_call
-call_is l w e = ap (λ (n : ℕ). get_or (event_calls l) (n - 3) fresh) (sym e)
 
 -- ── every event is judged first ──
 
@@ -47,10 +41,10 @@ event_judged : (t : Tables) (s : List ℕ) (l : Line) → 3 ≤ l.word → l.wor
 unfolding line_call course_of
 event_judged t s l h k = call_at (JudgedFirst t s) (event_calls l) ((_, refl), ((_, refl), ((_, refl), ((_, refl), ((_, refl), ((_, refl), ((_, refl), ((_, refl), tt)))))))) fresh (l.word - 3) (omega arith)
 
-pub malformed_answers : (t : Tables) (s : List ℕ) (l : Line) → 3 ≤ l.word → l.word < 11 → sound_policy t ≡ false → (r : Answer) → (r.code ≡ 1) × (r.second ≡ 0) → Answers t s (line_call l) r s
-malformed_answers t s l h k e r z =
+pub malformed_answers : (t : Tables) (s : List ℕ) (l : Line) → 3 ≤ l.word → l.word < 11 → sound_policy t ≡ false → Answers t s (line_call l) (Err MalformedPolicy) s
+malformed_answers t s l h k e =
     let j : JudgedFirst t s (line_call l) = event_judged t s l h k in
-    unsound t s [] (line_call l) j.0 j.1 r 1 z (λ z. omega arith) (no-policy t s e)
+    unsound t s [] (line_call l) j.0 j.1 MalformedPolicy (no-policy t s e)
 
 -- ── soundness is kept ──
 
@@ -60,10 +54,3 @@ keeps-sound t s s' c r h a = go (lt_or_ge 0 (answer t s [] c).code)
     go : (0 < (answer t s [] c).code) ⊎ ((answer t s [] c).code ≤ 0) → T (sound (policy_of t) s')
     go (inl n) = subst⁻¹ (λ (l : List ℕ). T (sound (policy_of t) l)) (a.state_kept ∙ (refused_unchanged t s [] c (λ z. omega arith)).state_same) h
     go (inr n) = subst⁻¹ (λ (l : List ℕ). T (sound (policy_of t) l)) a.state_kept (accepted-sound t s [] c (omega arith))
-
-pub both_sound : (t : Tables) (s : List ℕ) (sound-policy : Bool) → SoundIf t s sound-policy → sound-policy ≡ true → Sound t s
-both_sound t s sound-policy h e = record { policy = of_true (sound_policy t) (sym h.policy ∙ e); state = h.state }
-
--- the answer of the call at a word's place is the line's
-pub answers_line : (t : Tables) (s s' : List ℕ) (l : Line) (r : Answer) (w : ℕ) → l.word ≡ w → Answers t s (get_or (event_calls l) (w - 3) fresh) r s' → Answers t s (line_call l) r s'
-answers_line t s s' l r w e a = subst (λ (c : Call). Answers t s c r s') (call_is l w e) a

@@ -3,55 +3,69 @@
 
 #![tactic(auto)]
 
-ghost use Rattle.std.specs.Prelude.{◌<◌, ◌≤◌, T};
+ghost use Rattle.std.specs.Prelude.{◌≤◌, T};
+ghost use Rattle.model.specs.Answered.{tables_of};
 ghost use Rattle.model.specs.Layout.{policy_of};
 ghost use Rattle.model.specs.Sound.{sound};
 ghost use Rattle.model.specs.Words.{Sound};
-ghost use Rattle.program.specs.Vocabulary.{words, policy_words};
+ghost use Rattle.program.specs.Vocabulary.{policy_words};
+ghost use Rattle.program.specs.Said.{number_of, line_of_read};
 ghost use Rattle.program.specs.Program.{line_call};
-ghost use Rattle.inner.specs.Promise.{lent, Answers};
+ghost use Rattle.inner.specs.Promise.{Answers};
 ghost use Rattle.event.specs.SoundIf.{SoundIf};
 
-use model::{Answer, MALFORMED_POLICY};
-use program::{
-    ACTIVATE_WORD, APPOINT_WORD, ENV_WORD, INVOKE_WORD, LOGOUT_WORD, Line, REVOKE_WORD,
-    WITHDRAW_WORD,
-};
+use model::{Answer, Certificate, Lent, Reason};
+use program::{Line, Word};
 
 // The call that the line makes, on sound tables.
-fn call(rules: &[u16], kinds: &[u16], rights: &[u16], state: &mut [u16], line: Line) -> Answer
-    requires { Sound (lent rules.now kinds.now rights.now) state.old × (policy_words ≤ line.word) × (line.word < words) }
-    ensures { Answers (lent rules.now kinds.now rights.now) state.old (line_call line) result state.new }
+#[tactic(auto, unfolding(program::specs::Program::line_call))]
+fn call(policy: Lent, state: &mut [u16], line: Line) -> Answer
+    requires { Sound (tables_of policy) state.old × (policy_words ≤ number_of line.word) }
+    ensures { Answers (tables_of policy.entry) state.old (line_call (line_of_read line)) result state.new }
 {
-    let word = line.word;
     let n = line.numbers;
-    match word {
-        ACTIVATE_WORD => inner::activate(rules, kinds, rights, state, n[0], n[1]),
-        APPOINT_WORD => inner::appoint(rules, kinds, rights, state, n[0], n[1], n[2]),
-        REVOKE_WORD => taking::revoke(rules, kinds, rights, state, n[0], n[1], n[2], n[3]),
-        WITHDRAW_WORD => taking::withdraw(rules, kinds, rights, state, n[0], n[1], n[2]),
-        ENV_WORD => taking::environment(rules, kinds, rights, state, n[0], n[1]),
-        LOGOUT_WORD => taking::logout(rules, kinds, rights, state, n[0]),
-        INVOKE_WORD => query::invoke(rules, kinds, rights, state, n[0], n[1]),
-        _ => query::effective(rules, kinds, rights, state, n[0], n[1], n[2]),
+    match line.word {
+        Word::Rule | Word::Kind | Word::Right => unreachable!(),
+        Word::Activate => inner::activate(policy, state, n[0], n[1]),
+        Word::Appoint => {
+            let certificate = Certificate {
+                appointer: n[0],
+                appointee: n[1],
+                kind: n[2],
+            };
+            inner::appoint(policy, state, certificate)
+        }
+        Word::Revoke => {
+            let certificate = Certificate {
+                appointee: n[1],
+                kind: n[2],
+                appointer: n[3],
+            };
+            taking::revoke(policy, state, n[0], certificate)
+        }
+        Word::Withdraw => {
+            let certificate = Certificate {
+                appointee: n[0],
+                kind: n[1],
+                appointer: n[2],
+            };
+            taking::withdraw(policy, state, certificate)
+        }
+        Word::Env => taking::environment(policy, state, n[0], n[1]),
+        Word::Logout => taking::logout(policy, state, n[0]),
+        Word::Invoke => query::invoke(policy, state, n[0], n[1]),
+        Word::Effective => query::effective(policy, state, n[0], n[1], n[2]),
     }
 }
 
 // With a malformed policy every event answers 1.
-pub fn answer_event(
-    rules: &[u16],
-    kinds: &[u16],
-    rights: &[u16],
-    sound_policy: bool,
-    state: &mut [u16],
-    line: Line,
-) -> Answer
-    requires { SoundIf (lent rules.now kinds.now rights.now) state.old sound_policy × (policy_words ≤ line.word) × (line.word < words) }
-    ensures answer { Answers (lent rules.now kinds.now rights.now) state.old (line_call line) result state.new }
-    ensures kept { T (sound (policy_of (lent rules.now kinds.now rights.now)) state.new) }
+pub fn answer_event(policy: Lent, sound_policy: bool, state: &mut [u16], line: Line) -> Answer
+    requires { SoundIf (tables_of policy) state.old sound_policy × (policy_words ≤ number_of line.word) }
+    ensures answer { Answers (tables_of policy.entry) state.old (line_call (line_of_read line)) result state.new }
+    ensures kept { T (sound (policy_of (tables_of policy.entry)) state.new) }
 {
     if !sound_policy {
-        return inner::refused(MALFORMED_POLICY);
+        return Err(Reason::MalformedPolicy);
     }
-    call(rules, kinds, rights, state, line)
+    call(policy, state, line)
 }
