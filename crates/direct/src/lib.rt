@@ -32,7 +32,7 @@ fn note(rights: &[u16], privilege: u16, from: usize, to: usize, having: &mut Hol
     for i in from..to {
         let right = table::right_at(rights, i);
         if right.privilege == privilege {
-            having[table::wide(right.role)] = true;
+            having[usize::from(right.role)] = true;
         }
     }
 }
@@ -66,7 +66,7 @@ pub fn roles_having(rights: &[u16], privilege: u16) -> Holders
 pub fn has_right(having: &Holders, role: u16) -> bool
     ensures { result ≡ holds_right having.now role }
 {
-    role < ROLES && having[table::wide(role)]
+    role < ROLES && having[usize::from(role)]
 }
 
 // The row is the user's, and its role has the privilege.
@@ -81,7 +81,7 @@ pub fn may_invoke(rights: &[u16], state: &[u16], user: u16, privilege: u16) -> b
     requires { Sized state.now × RightsFit rights.now }
     ensures { result ≡ allowed (policy_of (lent [] [] rights.now)) (decode state.now).rows user privilege }
 {
-    let n = table::wide(state[ROW_COUNT_AT]);
+    let n = usize::from(state[ROW_COUNT_AT]);
     if n == 0 {
         return false;
     }

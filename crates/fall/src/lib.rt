@@ -50,7 +50,7 @@ fn sweep<F: Fn(usize, Row) -> bool>(state: &mut [u16], stays: F) -> u16
     requires callable { (i : ℕ) (row : Row) → i < most_rows → F.pre stays i row }
     ensures { RowsKept (F.post stays) state.old state.new result }
 {
-    let n = table::wide(state[ROW_COUNT_AT]);
+    let n = usize::from(state[ROW_COUNT_AT]);
     let mut w = 0;
     for i in 0..n {
         if stays(i, table::row_at(state, i)) {

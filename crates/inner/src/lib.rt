@@ -12,9 +12,10 @@ ghost use Rattle.model.specs.Answered.{tables_of};
 ghost use Rattle.model.specs.Calls.{fresh as fresh_call, activate as activate_call, appoint as appoint_call};
 ghost use Rattle.model.specs.Words.{Sound};
 ghost use Rattle.table.specs.Entries.{rule_at, world_at, without_rights, Sized};
-ghost use Rattle.marks.specs.Marked.{own_marks, has, satisfied_by};
+ghost use Rattle.marks.specs.Marked.{has, satisfied_by};
 ghost use Rattle.inner.specs.Promise.{lent, Answers};
 
+use marks::OwnMarks;
 use model::{
     Answer, CERTIFICATE_COUNT_AT, Certificate, KIND_WIDTH, Lent, MOST_CERTIFICATES, MOST_ROWS,
     ROLES, ROW_COUNT_AT, RULE_WIDTH, Reason, Row, STATE_SIZE, USERS,
@@ -22,8 +23,8 @@ use model::{
 
 // The rule is one for the role, and its conditions all hold by the marks. Most rules are for other roles, so a rule's target is asked
 // before anything else is made ready.
-fn is_satisfied(policy: Lent, state: &[u16], own: &[bool], role: u16, i: usize) -> bool
-    requires { Sized state.now × (length own.now ≡ own_marks) × (i < length policy.rules.now / rule_width) }
+fn is_satisfied(policy: Lent, state: &[u16], own: &OwnMarks, role: u16, i: usize) -> bool
+    requires { Sized state.now × (i < length policy.rules.now / rule_width) }
     ensures { result ≡ satisfied_by (has own.now) (world_at policy.entry.rules.now policy.entry.kinds.now state.now) role (rule_at policy.entry.rules.now i) }
 {
     let rule = table::rule_at(policy.rules, i);
@@ -31,8 +32,8 @@ fn is_satisfied(policy: Lent, state: &[u16], own: &[bool], role: u16, i: usize) 
 }
 
 // The lowest rule that is satisfied, of those for the role.
-fn lowest_satisfied(policy: Lent, state: &[u16], own: &[bool], role: u16) -> Option<usize>
-    requires { Sized state.now × (length own.now ≡ own_marks) }
+fn lowest_satisfied(policy: Lent, state: &[u16], own: &OwnMarks, role: u16) -> Option<usize>
+    requires { Sized state.now }
     ensures { result ≡ position (satisfied_by (has own.now) (world_at policy.entry.rules.now policy.entry.kinds.now state.now) role) (policy_of (without_rights policy.entry.rules.now policy.entry.kinds.now)).rules }
 {
     (0..policy.rules.len() / RULE_WIDTH).position(|i| is_satisfied(policy, state, own, role, i))

@@ -3,7 +3,7 @@
 
 #![tactic(auto)]
 
-ghost use Rattle.std.specs.Prelude.{◌≡◌, false, ◌&&◌, [], ◌+◌, ◌<◌, length, replicate};
+ghost use Rattle.std.specs.Prelude.{◌≡◌, false, ◌&&◌, [], ◌+◌, ◌<◌, replicate};
 ghost use Rattle.model.specs.Lists.{all};
 ghost use Rattle.model.specs.Limits.{most_kinds};
 ghost use Rattle.model.specs.Layout.{decode, policy_of};
@@ -19,25 +19,26 @@ pub const OWN_MARKS: usize = 384;
 
 pub const KINDS_AT: usize = 256;
 
+// A user's own marks.
+pub type OwnMarks = [bool; OWN_MARKS];
+
 // The role is marked. A role out of range never is.
-pub fn role_marked(own: &[bool], role: u16) -> bool
-    requires { length own.now ≡ own_marks }
+pub fn role_marked(own: &OwnMarks, role: u16) -> bool
     ensures { result ≡ role_marked (has own.now) role }
 {
     role < ROLES && own[usize::from(role)]
 }
 
 // The roles are all marked.
-fn all_marked(own: &[bool], roles: &[u16]) -> bool
-    requires { length own.now ≡ own_marks }
+fn all_marked(own: &OwnMarks, roles: &[u16]) -> bool
     ensures { result ≡ all (role_marked (has own.now)) roles.now }
 {
     roles.iter().all(|role| role_marked(own, *role))
 }
 
 // A certificate of the kind stands, and the kind's prerequisite roles are marked.
-fn kind_holds(kinds: &[u16], own: &[bool], kind: u16) -> bool
-    requires { (length own.now ≡ own_marks) × (kind < most_kinds) }
+fn kind_holds(kinds: &[u16], own: &OwnMarks, kind: u16) -> bool
+    requires { kind < most_kinds }
     ensures { result ≡ (has own.now (256 + kind) && all (role_marked (has own.now)) (prerequisite_roles (kind_numbered (policy_of (without_rights [] kinds.now)) kind))) }
 {
     let kind = usize::from(kind);
@@ -45,8 +46,8 @@ fn kind_holds(kinds: &[u16], own: &[bool], kind: u16) -> bool
 }
 
 // The condition holds by the marks.
-fn condition_holds(kinds: &[u16], state: &[u16], own: &[bool], number: u16) -> bool
-    requires { Sized state.now × (length own.now ≡ own_marks) }
+fn condition_holds(kinds: &[u16], state: &[u16], own: &OwnMarks, number: u16) -> bool
+    requires { Sized state.now }
     ensures { result ≡ holds_by (has own.now) (world_at [] kinds.now state.now) (meant number) }
 {
     match Condition::from(number) {
@@ -58,8 +59,8 @@ fn condition_holds(kinds: &[u16], state: &[u16], own: &[bool], number: u16) -> b
 }
 
 // The conditions all hold by the marks.
-fn all_conditions_hold(kinds: &[u16], state: &[u16], own: &[bool], conditions: &[u16]) -> bool
-    requires { Sized state.now × (length own.now ≡ own_marks) }
+fn all_conditions_hold(kinds: &[u16], state: &[u16], own: &OwnMarks, conditions: &[u16]) -> bool
+    requires { Sized state.now }
     ensures { result ≡ all_hold_by (has own.now) (world_at [] kinds.now state.now) conditions.now }
 {
     conditions
@@ -68,8 +69,8 @@ fn all_conditions_hold(kinds: &[u16], state: &[u16], own: &[bool], conditions: &
 }
 
 // The membership conditions of the row's own rule hold by its user's own marks.
-pub fn row_supported(policy: Lent, state: &[u16], own: &[bool], row: Row) -> bool
-    requires { Sized state.now × (length own.now ≡ own_marks) }
+pub fn row_supported(policy: Lent, state: &[u16], own: &OwnMarks, row: Row) -> bool
+    requires { Sized state.now }
     ensures { result ≡ supported_by (has own.now) (world_at policy.entry.rules.now policy.entry.kinds.now state.now) row }
 {
     let rule = table::rule_numbered(policy.rules, usize::from(row.rule));
@@ -77,15 +78,15 @@ pub fn row_supported(policy: Lent, state: &[u16], own: &[bool], row: Row) -> boo
 }
 
 // The rule's conditions all hold by the marks.
-pub fn rule_holds(kinds: &[u16], state: &[u16], own: &[bool], rule: Rule) -> bool
-    requires { Sized state.now × (length own.now ≡ own_marks) }
+pub fn rule_holds(kinds: &[u16], state: &[u16], own: &OwnMarks, rule: Rule) -> bool
+    requires { Sized state.now }
     ensures { result ≡ all_hold_by (has own.now) (world_at [] kinds.now state.now) (activating rule) }
 {
     all_conditions_hold(kinds, state, own, rule.activating())
 }
 
 // The roles that the user is active in are marked.
-pub fn mark_roles(state: &[u16], user: u16, own: &mut [bool])
+pub fn mark_roles(state: &[u16], user: u16, own: &mut OwnMarks)
     requires { InRange state.now × (own.old ≡ replicate own_marks false) }
     ensures { Own user own.new (decode state.now).rows [] }
 {
@@ -99,7 +100,7 @@ pub fn mark_roles(state: &[u16], user: u16, own: &mut [bool])
 
 // The kinds that stand for the user are marked. A row and a certificate lie in different tables, and differ in whom they are for and in
 // what they mark: a function for both would be passed all of it, and its body is four lines.
-pub fn mark_kinds(state: &[u16], user: u16, own: &mut [bool])
+pub fn mark_kinds(state: &[u16], user: u16, own: &mut OwnMarks)
     requires { InRange state.now × Own user own.old (decode state.now).rows [] }
     ensures { Own user own.new (decode state.now).rows (decode state.now).certificates }
 {

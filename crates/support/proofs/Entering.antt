@@ -6,7 +6,7 @@ use mathlib.Core.Logic.{◌≢◌}
 use mathlib.Core.List.{List, [], ◌∷◌, ◌++◌}
 use native.Mathlib.Omega.{arith}
 use native.Mathlib.Numerals.{add-one}
-use lib.ListN.{length, get_or, set, replicate}
+use lib.ListN.{get_or, set, replicate}
 use Rattle.model.specs.Values.{World}
 use Rattle.model.specs.Layout.{decode, row_count, certificate_count, certificates_at}
 use Rattle.model.specs.Conditions.{active, supported}
@@ -113,8 +113,8 @@ module _ (w : World) (s : List ℕ) (k : ℕ) {own : List Bool} (x : Own (row_at
     role = d ∙ ap (λ (y : Row). y.role) e
 
     -- the role has a mark
-    pub role_has_mark : m < length own
-    role_has_mark = omega (arith, x.size, role, (row_in_range s range k there).1)
+    pub role_has_mark : m < own_marks
+    role_has_mark = omega (arith, role, (row_in_range s range k there).1)
 
     -- whether the mark says that the user is in the role
     in_role : (t : Bool) → get_or own m false ≡ t → active (kept w s k) (row_at s k).user (row_at s k).role ≡ t

@@ -13,6 +13,7 @@ ghost use Rattle.queues.specs.Queued.{Queued};
 ghost use Rattle.queues.proofs.Linking.{Link-prop};
 ghost use Rattle.support.specs.Verdicts.{world_under, kept, verdict_at, Correct, UserJudged, Judged};
 
+use marks::OwnMarks;
 use model::{CERTIFICATE_COUNT_AT, CERTIFICATES_AT, Lent, MOST_ROWS, ROW_COUNT_AT, ROWS_AT};
 use queues::Queues;
 
@@ -39,7 +40,7 @@ struct Pass<'a> {
 
 impl Pass<'_> {
     // The kinds that stand for the user are marked, along the queue of the user's certificates.
-    fn enter_kinds(&self, user: u16, own: &mut [bool])
+    fn enter_kinds(&self, user: u16, own: &mut OwnMarks)
         requires { own.old ≡ replicate own_marks false }
         ensures { Own user own.new [] (decode self.now.state.now).certificates }
     {
@@ -48,13 +49,13 @@ impl Pass<'_> {
             next = self.certificates.behind(k);
             let certificate = table::certificate_at(self.state, k);
             if certificate.appointee == user {
-                own[marks::KINDS_AT + table::wide(certificate.kind)] = true;
+                own[marks::KINDS_AT + usize::from(certificate.kind)] = true;
             }
         }
     }
 
     // Row k is judged by its user's marks, and marked if it stays.
-    fn judge_row(&self, own: &mut [bool], k: usize) -> Verdict
+    fn judge_row(&self, own: &mut OwnMarks, k: usize) -> Verdict
         requires { (k < row_count self.now.state.now) × Own (row_at self.now.state.now k).user own.old (kept (world_under self.now.policy self.now.state.now) self.now.state.now k) (decode self.now.state.now).certificates }
         ensures said { result ≡ verdict_at (world_under self.now.policy self.now.state.now) self.now.state.now k }
         ensures entered { Own (row_at self.now.state.now k).user own.new (kept (world_under self.now.policy self.now.state.now) self.now.state.now (k + 1)) (decode self.now.state.now).certificates }
@@ -63,7 +64,7 @@ impl Pass<'_> {
         if !marks::row_supported(self.policy, self.state, own, row) {
             return Verdict::Falls;
         }
-        let role = table::wide(row.role);
+        let role = usize::from(row.role);
         if own[role] {
             return Verdict::Twice;
         }
@@ -72,7 +73,7 @@ impl Pass<'_> {
     }
 
     // Of row i's user all rows are judged, from row i on.
-    fn judge_user(&self, own: &mut [bool], i: usize, verdicts: &mut [Option<Verdict>])
+    fn judge_user(&self, own: &mut OwnMarks, i: usize, verdicts: &mut [Option<Verdict>])
         requires { (i < row_count self.now.state.now) × Own (row_at self.now.state.now i).user own.old (kept (world_under self.now.policy self.now.state.now) self.now.state.now i) (decode self.now.state.now).certificates × Correct (world_under self.now.policy self.now.state.now) self.now.state.now verdicts.old }
         ensures { UserJudged (world_under self.now.policy self.now.state.now) self.now.state.now i verdicts.old verdicts.new }
     {
@@ -103,7 +104,7 @@ impl Pass<'_> {
         ensures { Judged (world_under self.now.policy self.now.state.now) self.now.state.now result }
     {
         let mut verdicts = [None; MOST_ROWS];
-        for i in 0..table::wide(self.state[ROW_COUNT_AT]) {
+        for i in 0..usize::from(self.state[ROW_COUNT_AT]) {
             if verdicts[i].is_none() {
                 self.judge_from_first(i, &mut verdicts);
             }
@@ -117,8 +118,8 @@ pub fn judge_rows(policy: Lent, state: &[u16]) -> [Option<Verdict>; MOST_ROWS]
     requires { InRange state.now }
     ensures { Judged (world_at policy.entry.rules.now policy.entry.kinds.now state.now) state.now result }
 {
-    let n = table::wide(state[ROW_COUNT_AT]);
-    let m = table::wide(state[CERTIFICATE_COUNT_AT]);
+    let n = usize::from(state[ROW_COUNT_AT]);
+    let m = usize::from(state[CERTIFICATE_COUNT_AT]);
     let rows = Queues::of(state, ROWS_AT, n);
     let certificates = Queues::of(state, CERTIFICATES_AT, m);
     let pass = Pass {

@@ -8,7 +8,7 @@ use Rattle.direct.proofs.has_right.Goals as goal
 
 pub returns-then-role-lt-ROLES : goal.returns-then-role-lt-ROLES
 unfolding holds_right
-returns-then-role-lt-ROLES c = ap (λ (n : ℕ). get_or c.args.having.now n false) c.wide.ensures ∙ sym (ap (λ (b : Bool). b && get_or c.args.having.now c.args.role false) (lt-ltb _ _ c.if-role-lt-ROLES.true))
+returns-then-role-lt-ROLES c = ap (λ (n : ℕ). get_or c.args.having.now n false) c.from.ensures ∙ sym (ap (λ (b : Bool). b && get_or c.args.having.now c.args.role false) (lt-ltb _ _ c.if-role-lt-ROLES.true))
 
 pub returns-else-role-lt-ROLES : goal.returns-else-role-lt-ROLES
 unfolding holds_right

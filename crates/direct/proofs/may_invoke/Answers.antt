@@ -15,11 +15,11 @@ use Rattle.direct.proofs.may_invoke.Goals as goal
 
 pub returns-then-n-eq0 : goal.returns-then-n-eq0
 unfolding allowed decode first_rows
-returns-then-n-eq0 c = sym (ap (λ (n : _). allowed (policy_of (lent [] [] c.args.rights.now)) (first_rows c.args.state.now n) c.args.user c.args.privilege) (sym c.wide-n.ensures ∙ c.if-n-eq0.true))
+returns-then-n-eq0 c = sym (ap (λ (n : _). allowed (policy_of (lent [] [] c.args.rights.now)) (first_rows c.args.state.now n) c.args.user c.args.privilege) (sym c.from-n.ensures ∙ c.if-n-eq0.true))
 
 pub returns : goal.returns
 unfolding decode first_rows row_at
 returns c = let having = c.roles_having-having in
-    any_of_entries row_from 3 (row_numbers c.args.state.now) (λ (r : Row). eqb r.user c.args.user && holds_right having.result r.role) c.wide-n.result _ _ _ c.any.ensures.ran refl (λ i b q k. search (rules, tests))
-    ∙ rows_having c.args.rights.now c.args.privilege having.result c.args.user (first_rows c.args.state.now c.wide-n.result) having.ensures
-    ∙ ap (λ (n : _). allowed (policy_of (lent [] [] c.args.rights.now)) (first_rows c.args.state.now n) c.args.user c.args.privilege) c.wide-n.ensures
+    any_of_entries row_from 3 (row_numbers c.args.state.now) (λ (r : Row). eqb r.user c.args.user && holds_right having.result r.role) c.from-n.result _ _ _ c.any.ensures.ran refl (λ i b q k. search (rules, tests))
+    ∙ rows_having c.args.rights.now c.args.privilege having.result c.args.user (first_rows c.args.state.now c.from-n.result) having.ensures
+    ∙ ap (λ (n : _). allowed (policy_of (lent [] [] c.args.rights.now)) (first_rows c.args.state.now n) c.args.user c.args.privilege) c.from-n.ensures

@@ -23,7 +23,7 @@ pub mark_kinds-requires : goal.mark_kinds-requires
 mark_kinds-requires c = (sound_range _ c.args.state.now c.requires, c.mark_roles.ensures)
 
 pub lowest_satisfied-requires : goal.lowest_satisfied-requires
-lowest_satisfied-requires c = (sound-sized _ c.args.state.now c.requires, c.mark_kinds.ensures.size)
+lowest_satisfied-requires c = sound-sized _ c.args.state.now c.requires
 
 pub returns-in_default : goal.returns-in_default
 returns-in_default c =

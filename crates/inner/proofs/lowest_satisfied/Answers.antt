@@ -1,4 +1,4 @@
-use Rattle.std.proofs.Common.{ℕ, rules, refl, ◌/◌, length}
+use Rattle.std.proofs.Common.{rules, refl, ◌/◌, length}
 use borrow.Author.Tests.{tests}
 use Rattle.model.specs.Layout.{policy_of, rule_from}
 use Rattle.marks.specs.Marked.{has, satisfied_by}

@@ -6,7 +6,7 @@ use Rattle.marks.specs.Marked.{has, holds_by}
 use Rattle.marks.proofs.condition_holds.Goals as goal
 
 pub kind_holds-requires : goal.kind_holds-requires
-kind_holds-requires c = (c.requires.1, (kind_in_range c.args.number c.in-Kind.kind c.in-Kind.ensures).1)
+kind_holds-requires c = (kind_in_range c.args.number c.in-Kind.kind c.in-Kind.ensures).1
 
 pub bounds-state-from : goal.bounds-state-from
 bounds-state-from c = omega (arith, fact_in_range c.args.number c.in-Fact.fact c.in-Fact.ensures)

@@ -13,7 +13,7 @@ unfolding first_certificates
 loop-i-init c = c.requires.1
 
 pub bounds-own-from : goal.bounds-own-from
-bounds-own-from c = omega (arith, c.loop-i.invariant.size, ap (λ (x : Certificate). x.kind) c.certificate_at-certificate.ensures, (certificate_in_range c.args.state.now c.requires.0 c.loop-i.i (omega arith)).1)
+bounds-own-from c = omega (arith, ap (λ (x : Certificate). x.kind) c.certificate_at-certificate.ensures, (certificate_in_range c.args.state.now c.requires.0 c.loop-i.i (omega arith)).1)
 
 pub loop-i-preserved : goal.loop-i-preserved
 loop-i-preserved c =

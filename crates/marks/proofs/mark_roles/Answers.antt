@@ -13,7 +13,7 @@ unfolding first_rows
 loop-i-init c = subst⁻¹ (λ (l : List Bool). Own c.args.user l [] []) c.requires.1 (own-none c.args.user)
 
 pub bounds-own-from : goal.bounds-own-from
-bounds-own-from c = omega (arith, c.loop-i.invariant.size, ap (λ (x : Row). x.role) c.row_at-row.ensures, (row_in_range c.args.state.now c.requires.0 c.loop-i.i (omega arith)).1)
+bounds-own-from c = omega (arith, ap (λ (x : Row). x.role) c.row_at-row.ensures, (row_in_range c.args.state.now c.requires.0 c.loop-i.i (omega arith)).1)
 
 pub loop-i-preserved : goal.loop-i-preserved
 loop-i-preserved c =
