@@ -86,12 +86,12 @@ own_newest : (s : List ℕ) (u k : ℕ) → T (is_row u (row_at s k).role (row_a
 unfolding newest
 own_newest s u k h = ap (λ (b : Bool). cond b (suc k) (newest s u (row_at s k).role k)) (is_true (is_row u (row_at s k).role (row_at s k)) h)
 
-module _ (rules kinds rights s : List ℕ) (h : Sound (lent rules kinds rights) s) (u q : ℕ) where
+module _ {rules kinds rights s : List ℕ} (h : Sound (lent rules kinds rights) s) {u q : ℕ} where
   -- ── at the beginning ──
 
-  pub walk-begins : (list : List ℕ) (next : Option ℕ) (k : ℕ) → k ≡ row_count s → next ≡ before (newest s u q k) → newest s u q k ≢ 0 → q < 256 → length list ≡ 256 → Walking rules kinds rights s u q list 0 next
-  walk-begins list None k all e z r size = absurd (z (before_none (newest s u q k) e))
-  walk-begins list (Some i) k all e z r size =
+  pub walk-begins : {list : List ℕ} {next : Option ℕ} {k : ℕ} → k ≡ row_count s → next ≡ before (newest s u q k) → newest s u q k ≢ 0 → q < 256 → length list ≡ 256 → Walking rules kinds rights s u q list 0 next
+  walk-begins {next = None} {k = k} all e z r size = absurd (z (before_none (newest s u q k) e))
+  walk-begins {list = list} {next = Some i} {k = k} all e z r size =
       let at : newest s u q k ≡ suc i = before_some (newest s u q k) i e in
       record {
         size = size;
@@ -102,7 +102,10 @@ module _ (rules kinds rights s : List ℕ) (h : Sound (lent rules kinds rights) 
 
   -- ── one row more ──
 
-  module _ (list : List ℕ) (n k : ℕ) (w : Walking rules kinds rights s u q list n (Some k)) where
+  module _ {list : List ℕ} {n k : ℕ} {at : Option ℕ} (is : at ≡ Some k) (walking : Walking rules kinds rights s u q list n at) where
+    w : Walking rules kinds rights s u q list n (Some k)
+    w = subst (Walking rules kinds rights s u q list n) is walking
+
     abbrev role : ℕ
     role = (row_at s k).role
 
@@ -142,8 +145,8 @@ module _ (rules kinds rights s : List ℕ) (h : Sound (lent rules kinds rights) 
         walk_goes_on (lent rules kinds rights) s h u (written (policy_of (lent rules kinds rights)) (decode s).rows u 257 q) list n (suc k) role lower few w.size is_role (λ z. omega (arith, own)) (omega (arith, inside))
         (e ∙ ap (λ (r : Row). get_or (rests_on (policy_of (lent rules kinds rights)) r) 0 256) (sym at_row)) w.walked
 
-    pub walk-steps : (next : Option ℕ) → next ≡ row_below (without_rights rules kinds) s u k → Walking rules kinds rights s u q (set list n role) (n + 1) next
-    walk-steps next e = go (slice_get (rests_on (policy_of (without_rights rules kinds)) (row_at s k)) 0) refl next e
+    pub walk-steps : {next : Option ℕ} → next ≡ row_below (without_rights rules kinds) s u k → Walking rules kinds rights s u q (set list n role) (n + 1) next
+    walk-steps {next = next} e = go (slice_get (rests_on (policy_of (without_rights rules kinds)) (row_at s k)) 0) refl next e
       where
         go : (first : Option ℕ) → first ≡ slice_get (rests_on (policy_of (without_rights rules kinds)) (row_at s k)) 0 → (next : Option ℕ) → next ≡ place_for s u k first → Walking rules kinds rights s u q (set list n role) (n + 1) next
         go None f None e =
@@ -170,8 +173,8 @@ module _ (rules kinds rights s : List ℕ) (h : Sound (lent rules kinds rights) 
                 }
             -- ── at the end ──
 
-  pub walk-over : (list : List ℕ) (n : ℕ) → Walking rules kinds rights s u q list n None → written (policy_of (lent rules kinds rights)) (decode s).rows u 257 q ≡ take n list
-  walk-over list n w = walk_ends (lent rules kinds rights) s h u (written (policy_of (lent rules kinds rights)) (decode s).rows u 257 q) list n 256 (omega arith) w.walked
+  pub walk-over : {list : List ℕ} {n : ℕ} {next : Option ℕ} → next ≡ None → Walking rules kinds rights s u q list n next → written (policy_of (lent rules kinds rights)) (decode s).rows u 257 q ≡ take n list
+  walk-over {list = list} {n = n} is w = walk_ends (lent rules kinds rights) s h u (written (policy_of (lent rules kinds rights)) (decode s).rows u 257 q) list n 256 (omega arith) (subst (Walking rules kinds rights s u q list n) is w).walked
 
-  pub walk-short : (list : List ℕ) (n : ℕ) (next : Option ℕ) → Walking rules kinds rights s u q list n next → n ≤ 256
-  walk-short list n next w = omega (arith, w.room, (sound-sized (lent rules kinds rights) s h).rows)
+  pub walk-short : {list : List ℕ} {n : ℕ} {next : Option ℕ} → Walking rules kinds rights s u q list n next → n ≤ 256
+  walk-short w = omega (arith, w.room, (sound-sized (lent rules kinds rights) s h).rows)

@@ -8,7 +8,7 @@ use mathlib.Core.List.{List, [], ◌∷◌, Memᴰ}
 use native.Mathlib.Omega.{arith}
 use lib.Dec.{eqb}
 use borrow.Author.Tests.{eqb-true, eqb-false}
-use lib.ListN.{length, get_or, take, set, length-set, length-take}
+use lib.ListN.{length, get_or, take, set, length-take}
 use lib.Seq.{get_or-set_same, get_or-set_other, get_or-take, take_all}
 use Rattle.model.specs.Layout.{policy_of}
 use Rattle.model.specs.Conditions.{meant, roles_asked}
@@ -44,13 +44,13 @@ module _ (kinds : List ℕ) where
   answered-keeps a b c k h q l m = k q (h q l m)
 
   pub grown-none : (a : List Bool) (cs : List ℕ) (n : ℕ) → AskedThrough kinds a → Grown kinds a a cs n
-  grown-none a cs n h = record { size = refl; closed = h; keeps = λ c e. e; only = λ q l e. inl e }
+  grown-none a cs n h = record { closed = h; keeps = λ c e. e; only = λ q l e. inl e }
 
   -- a role is marked
   role-asked : (a : List Bool) (c w : ℕ) → length a ≡ 384 → w ≡ c → c < 256 → AskedThrough kinds a → ConditionAsked kinds a (set a w true) c
   role-asked a c w size e l h =
       record {
-        grown = record { size = length-set a w true; closed = closed; keeps = mark_keeps a w inside; only = λ q k m. only q (mark_only a w inside q m) };
+        grown = record { closed = closed; keeps = mark_keeps a w inside; only = λ q k m. only q (mark_only a w inside q m) };
         answered = λ q k m. mark_here a w inside q (e ∙ sym (Memᴰ.eq_of_singleton (subst⁻¹ (Memᴰ q) (asked-role kinds c c (sym (meant-role c l))) m)));
       }
     where
@@ -78,7 +78,7 @@ module _ (kinds : List ℕ) where
   -- ── condition by condition ──
 
   pub grown-next : (a b d : List Bool) (cs : List ℕ) (i c : ℕ) → c ≡ get_or cs i 0 → Grown kinds a b cs i → ConditionAsked kinds b d c → Grown kinds a d cs (i + 1)
-  grown-next a b d cs i c e g k = record { size = k.grown.size ∙ g.size; closed = k.grown.closed; keeps = λ x h. k.grown.keeps x (g.keeps x h); only = λ q l h. before q l (k.grown.only q l h) }
+  grown-next a b d cs i c e g k = record { closed = k.grown.closed; keeps = λ x h. k.grown.keeps x (g.keeps x h); only = λ q l h. before q l (k.grown.only q l h) }
     where
       Named : ℕ → ℕ → Type 0
       Named q n = (get_or a q false ≡ true) ⊎ ((j : ℕ) × (j < n) × Memᴰ q (roles_asked (policy_of (without_rights [] kinds)) (meant (get_or cs j 0))))
@@ -101,7 +101,7 @@ module _ (kinds : List ℕ) where
 
   -- the first i of m conditions, as the list of the m
   pub grown-within : (a b : List Bool) (cs ms : List ℕ) (i m : ℕ) → take m cs ≡ ms → i ≤ m → m ≤ length cs → Grown kinds a b cs i → Grown kinds a b ms (length ms)
-  grown-within a b cs ms i m e l f g = record { size = g.size; closed = g.closed; keeps = g.keeps; only = λ q k h. go q (g.only q k h) }
+  grown-within a b cs ms i m e l f g = record { closed = g.closed; keeps = g.keeps; only = λ q k h. go q (g.only q k h) }
     where
       count : length ms ≡ m
       count = ap length (sym e) ∙ simp length-take (omega arith)
@@ -136,24 +136,22 @@ module _ (a : List Bool) (c : ℕ) where
 
 -- the first j of the roles are marked beside what was
 pub record RolesMarked (a b : List Bool) (roles : List ℕ) (j : ℕ) : Type 0 where
-  pub size : length b ≡ length a
   pub kinds_same : (c : ℕ) → 256 ≤ c → get_or b c false ≡ get_or a c false
   pub keeps : (q : ℕ) → get_or a q false ≡ true → get_or b q false ≡ true
   pub only : (q : ℕ) → get_or b q false ≡ true → (get_or a q false ≡ true) ⊎ ((i : ℕ) × (i < j) × (q ≡ get_or roles i 0))
   pub each : (i : ℕ) → i < j → get_or roles i 0 < 256 → get_or b (get_or roles i 0) false ≡ true
 
 pub roles-none : (a : List Bool) (roles : List ℕ) → RolesMarked a a roles 0
-roles-none a roles = record { size = refl; kinds_same = λ c l. refl; keeps = λ q h. h; only = λ q h. inl h; each = λ i l. absurd (omega arith) }
+roles-none a roles = record { kinds_same = λ c l. refl; keeps = λ q h. h; only = λ q h. inl h; each = λ i l. absurd (omega arith) }
 
 module _ (a b : List Bool) (roles : List ℕ) (j q : ℕ) (e : q ≡ get_or roles j 0) (h : RolesMarked a b roles j) where
   sooner : (p : ℕ) → (get_or a p false ≡ true) ⊎ ((i : ℕ) × (i < j) × (p ≡ get_or roles i 0)) → (get_or a p false ≡ true) ⊎ ((i : ℕ) × (i < j + 1) × (p ≡ get_or roles i 0))
   sooner p (inl k) = inl k
   sooner p (inr k) = inr (k.0, omega (arith, k.1), k.2)
 
-  pub roles_more : (w : ℕ) → length a ≡ 384 → w ≡ q → q < 256 → RolesMarked a (set b w true) roles (j + 1)
+  pub roles_more : (w : ℕ) → length b ≡ 384 → w ≡ q → q < 256 → RolesMarked a (set b w true) roles (j + 1)
   roles_more w size z l =
       record {
-        size = length-set b w true ∙ h.size;
         kinds_same = λ c k. get_or-set_other b w c true false (λ x. absurd (omega arith)) ∙ h.kinds_same c k;
         keeps = λ p k. mark_keeps b w inside p (h.keeps p k);
         only = λ p k. only p (mark_only b w inside p k);
@@ -161,7 +159,7 @@ module _ (a b : List Bool) (roles : List ℕ) (j q : ℕ) (e : q ≡ get_or role
       }
     where
       inside : w < length b
-      inside = omega (arith, size, h.size)
+      inside = omega (arith, size)
 
       only : (p : ℕ) → (w ≡ p) ⊎ (get_or b p false ≡ true) → (get_or a p false ≡ true) ⊎ ((i : ℕ) × (i < j + 1) × (p ≡ get_or roles i 0))
       only p (inl k) = inr (j, omega arith, sym k ∙ z ∙ e)
@@ -172,22 +170,22 @@ module _ (a b : List Bool) (roles : List ℕ) (j q : ℕ) (e : q ≡ get_or role
       each i o m (inr k) = let at : j ≡ i = omega arith in mark_here b w inside (get_or roles i 0) (z ∙ e ∙ ap (λ (n : ℕ). get_or roles n 0) at)
 
   pub roles-beyond : 256 ≤ q → RolesMarked a b roles (j + 1)
-  roles-beyond l = record { size = h.size; kinds_same = h.kinds_same; keeps = h.keeps; only = λ p k. sooner p (h.only p k); each = λ i k m. each i k m (lt_or_ge i j) }
+  roles-beyond l = record { kinds_same = h.kinds_same; keeps = h.keeps; only = λ p k. sooner p (h.only p k); each = λ i k m. each i k m (lt_or_ge i j) }
     where
       each : (i : ℕ) → i < j + 1 → get_or roles i 0 < 256 → (i < j) ⊎ (j ≤ i) → get_or b (get_or roles i 0) false ≡ true
       each i o m (inl k) = h.each i k m
       each i o m (inr k) = let at : i ≡ j = omega arith in absurd (omega (arith, e, ap (λ (n : ℕ). get_or roles n 0) at))
 
 -- all of its roles, and then its own mark
-pub kind_marked : (kinds : List ℕ) (a b : List Bool) (roles : List ℕ) (j c w : ℕ) → length a ≡ 384 → roles ≡ roles_asked (policy_of (without_rights [] kinds)) (meant c) → j ≡ length roles → w ≡ c → 256 ≤ c → c < 384 → AskedThrough kinds a → RolesMarked a b roles j → ConditionAsked kinds a (set b w true) c
+pub kind_marked : (kinds : List ℕ) (a b : List Bool) (roles : List ℕ) (j c w : ℕ) → length b ≡ 384 → roles ≡ roles_asked (policy_of (without_rights [] kinds)) (meant c) → j ≡ length roles → w ≡ c → 256 ≤ c → c < 384 → AskedThrough kinds a → RolesMarked a b roles j → ConditionAsked kinds a (set b w true) c
 kind_marked kinds a b roles j c w size e all z k l h g =
     record {
-      grown = record { size = length-set b w true ∙ g.size; closed = closed; keeps = λ d m. mark_keeps b w inside d (g.keeps d m); only = λ q m o. only q m (mark_only b w inside q o) };
+      grown = record { closed = closed; keeps = λ d m. mark_keeps b w inside d (g.keeps d m); only = λ q m o. only q m (mark_only b w inside q o) };
       answered = λ q m o. mark_keeps b w inside q (answered q m o);
     }
   where
     inside : w < length b
-    inside = omega (arith, size, g.size)
+    inside = omega (arith, size)
 
     answered : HasAsked kinds b c
     answered q m o = here (place_of roles 0 q (subst⁻¹ (Memᴰ q) e o))

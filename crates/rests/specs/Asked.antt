@@ -21,7 +21,6 @@ module _ (kinds : List ℕ) where
 
   -- marks were added, of roles only such as one of the first n conditions asks for
   pub record Grown (before after : List Bool) (conditions : List ℕ) (n : ℕ) : Type 0 where
-    pub size : length after ≡ length before
     pub closed : AskedThrough after
     pub keeps : (c : ℕ) → get_or before c false ≡ true → get_or after c false ≡ true
     pub only : (q : ℕ) → q < roles → get_or after q false ≡ true → (get_or before q false ≡ true) ⊎ ((j : ℕ) × (j < n) × Memᴰ q (roles_asked (policy_of (without_rights [] kinds)) (meant (get_or conditions j 0))))

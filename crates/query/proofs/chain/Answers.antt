@@ -1,8 +1,7 @@
 use mathlib.Core.Path.{subst⁻¹}
 use lib.ListN.{set}
-use Rattle.std.proofs.Common.{◌≡◌, ◌+◌, suc, not, ap, subst, ◌∙◌, arith}
+use Rattle.std.proofs.Common.{◌≡◌, ◌+◌, suc, not, ap, ◌∙◌, arith}
 use Rattle.model.specs.declared.Row.{Row}
-use Rattle.table.specs.Entries.{without_rights}
 use Rattle.inner.proofs.Codes.{sound-sized}
 use Rattle.rests.proofs.Newest.{newest-active, newest_some}
 use Rattle.query.proofs.Listing.{chain-no-user, chain-no-role, chain-no-list, chain_inactive, chain-written}
@@ -30,34 +29,33 @@ returns-then-is_none c =
     (newest-active c.args.state.now c.args.user c.args.role c.from.result (none_newest _ _ c.newest_row-next.ensures (c.is_none.ensures ∙ ap not c.if-is_none.true)))
 
 pub loop-next-init : goal.loop-next-init
-loop-next-init c =
-    walk-begins c.args.policy.rules.now c.args.policy.kinds.now c.args.policy.rights.now c.args.state.now c.requires c.args.user c.args.role c.args.list.now c.newest_row-next.result c.from.result c.from.ensures c.newest_row-next.ensures
-    (some_newest _ _ c.newest_row-next.ensures (c.is_none.ensures ∙ ap not c.if-is_none.false)) c.if-role-ge-ROLES.false c.if-not-fits.false
+loop-next-init c = walk-begins c.requires c.from.ensures c.newest_row-next.ensures (some_newest _ _ c.newest_row-next.ensures (c.is_none.ensures ∙ ap not c.if-is_none.false)) c.if-role-ge-ROLES.false c.if-not-fits.false
 
 pub row_at-requires : goal.row_at-requires
-row_at-requires c = ((sound-sized _ c.args.state.now c.requires).size, stands c.args.policy.rules.now c.args.policy.kinds.now c.args.policy.rights.now c.args.state.now c.requires c.args.user c.args.role c.loop-next.list c.loop-next.n c.in-Some.k (subst (Walking c.args.policy.rules.now c.args.policy.kinds.now c.args.policy.rights.now c.args.state.now c.args.user c.args.role c.loop-next.list c.loop-next.n) c.in-Some.is c.loop-next.invariant))
+row_at-requires c = ((sound-sized _ _ c.requires).size, stands c.requires c.in-Some.is c.loop-next.invariant)
 
 pub bounds-list-n : goal.bounds-list-n
-bounds-list-n c = omega (arith, c.loop-next.invariant.size, few c.args.policy.rules.now c.args.policy.kinds.now c.args.policy.rights.now c.args.state.now c.requires c.args.user c.args.role c.loop-next.list c.loop-next.n c.in-Some.k (subst (Walking c.args.policy.rules.now c.args.policy.kinds.now c.args.policy.rights.now c.args.state.now c.args.user c.args.role c.loop-next.list c.loop-next.n) c.in-Some.is c.loop-next.invariant))
+bounds-list-n c = omega (arith, c.loop-next.invariant.size, few c.requires c.in-Some.is c.loop-next.invariant)
 
 pub row_below-next-requires : goal.row_below-next-requires
-row_below-next-requires c = ((sound-sized _ c.args.state.now c.requires).size, stands c.args.policy.rules.now c.args.policy.kinds.now c.args.policy.rights.now c.args.state.now c.requires c.args.user c.args.role c.loop-next.list c.loop-next.n c.in-Some.k (subst (Walking c.args.policy.rules.now c.args.policy.kinds.now c.args.policy.rights.now c.args.state.now c.args.user c.args.role c.loop-next.list c.loop-next.n) c.in-Some.is c.loop-next.invariant))
+row_below-next-requires c = ((sound-sized _ _ c.requires).size, stands c.requires c.in-Some.is c.loop-next.invariant)
 
 pub loop-next-smaller : goal.loop-next-smaller
 loop-next-smaller c =
     let from : reach c.loop-next.next ≡ suc c.in-Some.k = ap reach c.in-Some.is in
-    omega (arith, row_within (without_rights c.args.policy.rules.now c.args.policy.kinds.now) c.args.state.now c.args.user c.in-Some.k c.row_below-next.result c.row_below-next.ensures)
+    omega (arith, row_within _ _ _ c.in-Some.k _ c.row_below-next.ensures)
 
 pub loop-next-preserved : goal.loop-next-preserved
 loop-next-preserved c =
-    subst⁻¹ (λ (r : Row). Walking c.args.policy.rules.now c.args.policy.kinds.now c.args.policy.rights.now c.args.state.now c.args.user c.args.role (set c.loop-next.list c.loop-next.n r.role) (c.loop-next.n + 1) c.row_below-next.result) c.row_at.ensures
-    (walk-steps c.args.policy.rules.now c.args.policy.kinds.now c.args.policy.rights.now c.args.state.now c.requires c.args.user c.args.role c.loop-next.list c.loop-next.n c.in-Some.k (subst (Walking c.args.policy.rules.now c.args.policy.kinds.now c.args.policy.rights.now c.args.state.now c.args.user c.args.role c.loop-next.list c.loop-next.n) c.in-Some.is c.loop-next.invariant) c.row_below-next.result c.row_below-next.ensures)
+    let policy = c.args.policy in
+    subst⁻¹ (λ (r : Row). Walking policy.rules.now policy.kinds.now policy.rights.now c.args.state.now c.args.user c.args.role (set c.loop-next.list c.loop-next.n r.role) (c.loop-next.n + 1) c.row_below-next.result) c.row_at.ensures
+    (walk-steps c.requires c.in-Some.is c.loop-next.invariant c.row_below-next.ensures)
 
 pub zero-requires : goal.zero-requires
-zero-requires c = (walk-short c.args.policy.rules.now c.args.policy.kinds.now c.args.policy.rights.now c.args.state.now c.requires c.args.user c.args.role c.loop-next.list c.loop-next.n c.loop-next.next c.loop-next.invariant, omega (arith, c.loop-next.invariant.size))
+zero-requires c = (walk-short c.requires c.loop-next.invariant, omega (arith, c.loop-next.invariant.size))
 
 pub returns : goal.returns
 returns c =
     chain-written _ _ _ _ _ c.requires c.args.user c.args.role c.if-user-ge-USERS.false c.if-role-ge-ROLES.false c.if-not-fits.false c.from.result c.from.ensures c.loop-next.list _ c.loop-next.n
-    (newest_some c.args.state.now c.args.user c.args.role c.from.result (some_newest _ _ c.newest_row-next.ensures (c.is_none.ensures ∙ ap not c.if-is_none.false)))
-    (walk-short c.args.policy.rules.now c.args.policy.kinds.now c.args.policy.rights.now c.args.state.now c.requires c.args.user c.args.role c.loop-next.list c.loop-next.n c.loop-next.next c.loop-next.invariant) c.loop-next.invariant.size (walk-over c.args.policy.rules.now c.args.policy.kinds.now c.args.policy.rights.now c.args.state.now c.requires c.args.user c.args.role c.loop-next.list c.loop-next.n (subst (Walking c.args.policy.rules.now c.args.policy.kinds.now c.args.policy.rights.now c.args.state.now c.args.user c.args.role c.loop-next.list c.loop-next.n) c.in_default.is c.loop-next.invariant)) c.zero.ensures
+    (newest_some _ _ _ _ (some_newest _ _ c.newest_row-next.ensures (c.is_none.ensures ∙ ap not c.if-is_none.false)))
+    (walk-short c.requires c.loop-next.invariant) c.loop-next.invariant.size (walk-over c.requires c.in_default.is c.loop-next.invariant) c.zero.ensures

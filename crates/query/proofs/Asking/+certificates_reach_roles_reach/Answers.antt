@@ -45,10 +45,10 @@ roles_reach-loop-i-preserved t c =
     record {
       closed = grown.closed;
       told = λ r h.
-      c.loop-i.invariant.told _
-      (tell_down _ _ _ _ _ c.loop-i.i _ (omega arith)
-      (tell_row _ _ _ _ _ _ c.row_at-row.result c.row_at-row.ensures (subst⁻¹ (λ (r : Row). r.role < 256) c.row_at-row.ensures (asking.ready.fits _ (omega arith))) (sym c.is_asked.ensures ∙ c.if-not-is_asked.false) asking.ready (omega arith) _ (sym c.has_right.ensures ∙ c.if-has_right.false)
-      (tell_all _ _ _ _ _ _ c.row_at-row.result c.row_at-row.ensures _ _ asking.ready (omega arith) r grown (c.ask_row.ensures.each (c.if-not-ask_row.false) asking.policy.kinds.now c.loop-i.invariant.closed) h)));
+          c.loop-i.invariant.told _
+          (tell_down _ _ _ _ _ c.loop-i.i _ (omega arith)
+          (tell_row _ _ _ _ _ _ c.row_at-row.result c.row_at-row.ensures (subst⁻¹ (λ (r : Row). r.role < 256) c.row_at-row.ensures (asking.ready.fits _ (omega arith))) (sym c.is_asked.ensures ∙ c.if-not-is_asked.false) asking.ready (omega arith) _ (sym c.has_right.ensures ∙ c.if-has_right.false)
+          (tell_all _ _ _ _ _ _ c.row_at-row.result c.row_at-row.ensures _ _ asking.ready (omega arith) r grown (c.ask_row.ensures.each (c.if-not-ask_row.false) asking.policy.kinds.now c.loop-i.invariant.closed) h)));
     }
 
 pub roles_reach-returns : goal.roles_reach-returns
