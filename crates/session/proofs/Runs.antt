@@ -1,20 +1,26 @@
 -- The events, one after the other: the invariant of the loop that answers them, and what it comes to.
 use Prim.Native.Nat.{ℕ, suc, ◌+◌, ◌-◌, ◌*◌, ◌≤◌, ◌<◌, min}
-use mathlib.Core.Path.{◌≡◌, refl, sym, ap, ◌∙◌, subst⁻¹}
-use mathlib.Core.Bool.{Bool, true}
-use mathlib.Core.List.{List, [], ◌∷◌, ◌++◌, map}
+use mathlib.Core.Path.{◌≡◌, refl, sym, ap, ◌∙◌, subst, subst⁻¹}
+use mathlib.Core.Bool.{Bool, true, false, not}
+use mathlib.Core.Logic.{◌⊎◌, inl, inr}
+use mathlib.Core.List.{List, [], ◌++◌, map}
 use native.Mathlib.Omega.{arith}
 use native.Mathlib.Numerals.{add-one}
-use lib.Dec.{T}
+use lib.Dec.{T, ltb}
+use borrow.Author.Rules.{rules}
 use lib.ListN.{length, take, drop, length-take, length-drop}
 use Rattle.model.specs.Values.{Tables}
 use Rattle.model.specs.Layout.{policy_of}
 use Rattle.model.specs.Sound.{sound_policy, sound}
-use Rattle.model.specs.declared.Answer.{Answer}
-use Rattle.program.specs.Lines.{line_of}
+use Rattle.model.specs.Answered.{Answer, code, second}
+use Rattle.program.specs.Lines.{Line, line_of}
+use Rattle.program.specs.Said.{number_of, line_of_read, line_said}
+use Rattle.program.specs.declared.Line.{Line as Read}
+use Rattle.std.specs.Prelude.{Option, Some, None}
+use Rattle.std.specs.Option.{MatchOption}
+use Rattle.std.proofs.lemmas.Option.{none-some}
+use Rattle.std.specs.Bool.{then_some}
 use Rattle.program.specs.Program.{Machine, answer_record, bad_record, is_full, after_event, step, steps, line_call}
-use Rattle.program.specs.declared.Line.{Line}
-use Rattle.program.proofs.Counted.{known}
 use Rattle.program.proofs.Lengths.{event_length}
 use Rattle.program.proofs.Steps.{bad_by, bad_is, event_not_bad, policy_after_event, unknown_bad, bad_written, event_taken}
 use Rattle.text.specs.Places.{part, record_end}
@@ -30,9 +36,30 @@ use Rattle.session.specs.Output.{Holds}
 
 -- ── lines ──
 
-line_known : (text : List ℕ) (at : ℕ) → (line_at text at).word ≤ 11
-unfolding line_at
-line_known text at = known (record_at text at)
+below : (w : ℕ) → false ≡ not (ltb w 3) → w < 3
+below w e = search rules
+
+-- what is kept of the line that a record says
+abbrev Filtered : (Read → Bool → Type 0) → Option Read → Option Read → Type 0
+Filtered Says r kept = MatchOption r (kept ≡ None) (λ x. (b : Bool) × Says x b × (kept ≡ then_some b x))
+
+-- the line that is kept is the record's; where none is kept, the record is bad
+module _ (Says : Read → Bool → Type 0) (r : Option Read) (text : List ℕ) (at : ℕ) (said : line_said r ≡ line_at text at) where
+  pub an_event : (line : Read) → Filtered Says r (Some line) → line_of_read line ≡ line_at text at
+  an_event line m = go r said m
+    where
+      go : (o : Option Read) → line_said o ≡ line_at text at → Filtered Says o (Some line) → line_of_read line ≡ line_at text at
+      go None e m = absurd (none-some line (sym m))
+      go (Some x) e (true, s, k) = ap line_said k ∙ e
+      go (Some x) e (false, s, k) = absurd (none-some line (sym k))
+
+  pub no_event : ((x : Read) (b : Bool) → Says x b → b ≡ not (ltb (number_of x.word) 3)) → Filtered Says r None → ((line_at text at).word < 3) ⊎ ((line_at text at).word ≡ 11)
+  no_event f m = go r said m
+    where
+      go : (o : Option Read) → line_said o ≡ line_at text at → Filtered Says o None → ((line_at text at).word < 3) ⊎ ((line_at text at).word ≡ 11)
+      go None e m = inr (ap (λ (l : Line). l.word) (sym e))
+      go (Some x) e (true, s, k) = absurd (none-some x k)
+      go (Some x) e (false, s, k) = inl (subst (λ (l : Line). l.word < 3) e (below (number_of x.word) (f x false s)))
 
 -- behind an event's record the text is seven bytes further on
 event_behind : (text : List ℕ) (at : ℕ) → at < length text → 3 ≤ (line_at text at).word → (line_at text at).word < 11 → at + 7 ≤ next_at text at
@@ -66,15 +93,15 @@ module _ (t : Tables) (text : List ℕ) (from taken : ℕ) (s₀ : List ℕ) (so
   here = running t s n (take w out)
 
   -- an event is answered
-  pub runs_on : (line : Line) (next : ℕ) (r : Answer) (s' out' : List ℕ) (w' : ℕ) → at < length text → line ≡ line_at text at → next ≡ next_at text at → 3 ≤ line.word → line.word < 11 → r.code < 65536 → r.second < 65536
-      → Answers t s (line_call line) r s' → T (sound (policy_of t) s') → Wrote out out' w (answer_record r.code r.second) w' → Runs t text from taken s₀ sound-policy next (n + 1) w' s' out'
+  pub runs_on : (line : Line) (next : ℕ) (r : Answer) (s' out' : List ℕ) (w' : ℕ) → at < length text → line ≡ line_at text at → next ≡ next_at text at → 3 ≤ line.word → line.word < 11 → code r < 65536 → second r < 65536
+      → Answers t s (line_call line) r s' → T (sound (policy_of t) s') → Wrote out out' w (answer_record (code r) (second r)) w' → Runs t text from taken s₀ sound-policy next (n + 1) w' s' out'
   unfolding after_event
   runs_on line next r s' out' w' h e f a b c₁ c₂ k v o =
       let far : at + 7 ≤ next = subst⁻¹ (λ (x : ℕ). at + 7 ≤ x) f (event_behind text at h (subst⁻¹ (λ (l : Line). 3 ≤ l.word) (sym e) a) (subst⁻¹ (λ (l : Line). l.word < 11) (sym e) b)) in
       record {
         in_text = omega (arith, f, next-within text at);
         few = omega (arith, g.few, far);
-        room = omega (arith, g.room, o.place, answer_short r.code r.second c₁ c₂, far);
+        room = omega (arith, g.room, o.place, answer_short (code r) (second r) c₁ c₂, far);
         fits = omega (arith, g.fits, o.size);
         sound_if = record { policy = g.sound_if.policy; state = v };
         so_far =
@@ -87,26 +114,20 @@ module _ (t : Tables) (text : List ℕ) (from taken : ℕ) (s₀ : List ℕ) (so
       }
 
   -- a bad record ends it
-  pub runs_bad : (line : Line) (out' : List ℕ) (w' : ℕ) → at < length text → length text ≤ 65536 → line ≡ line_at text at → (line.word < 3 → Wrote out out' w (bad_record (n + 1)) w' → Holds out' w' (steps (running t s₀ taken []) (lines_from text from)).written) × (11 ≤ line.word → Wrote out out' w (bad_record (n + 1)) w' → Holds out' w' (steps (running t s₀ taken []) (lines_from text from)).written)
-  runs_bad line out' w' h most e = (
-    (λ a o. done o (policy_after_event line.word (is_full 512 11 t.rules) (is_full 128 7 t.kinds) (is_full 2048 2 t.rights) a)),
-    (λ a o. done o (unknown_bad line.word (is_full 512 11 t.rules) (is_full 128 7 t.kinds) (is_full 2048 2 t.rights) true (eleven a))),
-  )
+  pub runs_bad : (out' : List ℕ) (w' : ℕ) → at < length text → length text ≤ 65536 → ((line_at text at).word < 3) ⊎ ((line_at text at).word ≡ 11) → Wrote out out' w (bad_record (n + 1)) w' → Holds out' w' (steps (running t s₀ taken []) (lines_from text from)).written
+  runs_bad out' w' h most bad o =
+      record {
+        within = omega (arith, o.place, o.size, g.room, g.fits, g.in_text, bad_short (n + 1) (omega (arith, g.few, g.in_text)));
+        front =
+            o.front
+            ∙ ap (λ (k : ℕ). take w out ++ bad_record k) (add-one n)
+            ∙ sym (bad_written here (line_at text at) (lines_from text (next_at text at)) refl (bad_is here (line_at text at) ∙ by bad))
+            ∙ sym (g.so_far ∙ ap (λ (ls : List Line). (steps here ls).written) (lines_from_lem text at h));
+      }
     where
-      eleven : 11 ≤ line.word → line.word ≡ 11
-      eleven a = let k : line.word ≤ 11 = subst⁻¹ (λ (l : Line). l.word ≤ 11) e (line_known text at) in omega (arith, a, k)
-
-      done : Wrote out out' w (bad_record (n + 1)) w' → bad_by line.word (is_full 512 11 t.rules) (is_full 128 7 t.kinds) (is_full 2048 2 t.rights) true ≡ true → Holds out' w' (steps (running t s₀ taken []) (lines_from text from)).written
-      done o b =
-          record {
-            within = omega (arith, o.place, o.size, g.room, g.fits, g.in_text, bad_short (n + 1) (omega (arith, g.few, g.in_text)));
-            front =
-                o.front
-                ∙ ap (λ (k : ℕ). take w out ++ bad_record k) (add-one n)
-                ∙ sym (bad_written here line (lines_from text (next_at text at)) refl (bad_is here line ∙ b))
-                ∙ ap (λ (l : Line). (steps here (l ∷ lines_from text (next_at text at))).written) e
-                ∙ sym (g.so_far ∙ ap (λ (ls : List Line). (steps here ls).written) (lines_from_lem text at h));
-          }
+      by : ((line_at text at).word < 3) ⊎ ((line_at text at).word ≡ 11) → bad_by (line_at text at).word (is_full 512 11 t.rules) (is_full 128 7 t.kinds) (is_full 2048 2 t.rights) true ≡ true
+      by (inl a) = policy_after_event (line_at text at).word (is_full 512 11 t.rules) (is_full 128 7 t.kinds) (is_full 2048 2 t.rights) a
+      by (inr e) = unknown_bad (line_at text at).word (is_full 512 11 t.rules) (is_full 128 7 t.kinds) (is_full 2048 2 t.rights) true e
 
   -- the text's end
   pub runs_end : length text ≤ at → Holds out w (steps (running t s₀ taken []) (lines_from text from)).written

@@ -1,19 +1,41 @@
-use mathlib.Core.Path.{◌∙◌}
+use Prim.Native.Nat.{ℕ, ◌<◌}
+use mathlib.Core.Path.{ap, ◌∙◌}
+use mathlib.Core.List.{List}
 use native.Mathlib.Omega.{arith}
-use Rattle.inner.specs.Promise.{lent}
-use Rattle.reader.proofs.Walking.{next-behind}
-use Rattle.session.proofs.Runs.{runs_on, runs_bad}
+use lib.ListN.{length}
 use borrow.Author.Rules.{rules}
+use Rattle.program.specs.Said.{line_of_read}
+use Rattle.program.proofs.Counted.{named_known}
+use Rattle.reader.specs.Reading.{line_at, next_at}
+use Rattle.reader.proofs.Walking.{next-behind}
+use Rattle.session.proofs.Runs.{an_event, no_event, runs_on, runs_bad}
+use Rattle.session.proofs.Whole.{held_in}
 use Rattle.session.proofs.run.Goals as goal
 
-pub returns-then-line-lt-POLICY_WORDS : goal.returns-then-line-lt-POLICY_WORDS
-returns-then-line-lt-POLICY_WORDS c = (runs_bad (lent c.args.rules.now c.args.kinds.now c.args.rights.now) c.args.text.now c.args.from c.args.taken c.args.state.now c.policy_sound-sound_policy.result c.loop-at.at c.loop-at.number c.loop-at.written c.loop-at.state c.loop-at.out c.loop-at.invariant.0 c.line_from-line.result _ c.write_bad.result c.loop-at-test.true c.requires.3 c.line_from-line.ensures).0 (omega (arith, c.if-line-lt-POLICY_WORDS.true)) c.write_bad.ensures
+pub returns-in_default : goal.returns-in_default
+returns-in_default c =
+    let same = c.loop-reader.invariant.0 in
+    let here = c.line.ensures ∙ ap (λ (text : List ℕ). line_at text c.loop-reader.reader.at) same in
+    let bad = no_event _ c.line.result c.args.from.text.now c.loop-reader.reader.at here (λ x b says. search rules) c.in_default.ensures in
+    let inside : c.loop-reader.reader.at < length c.args.from.text.now = omega (arith, c.loop-reader-test.true, ap length same) in
+    held_in _ _ _ _ (runs_bad _ _ _ _ _ _ _ _ _ _ _ c.loop-reader.invariant.2 _ _ inside c.requires.3 bad c.write_bad.ensures.wrote) (search rules)
 
-pub returns-then-line-ge-WORDS : goal.returns-then-line-ge-WORDS
-returns-then-line-ge-WORDS c = (runs_bad (lent c.args.rules.now c.args.kinds.now c.args.rights.now) c.args.text.now c.args.from c.args.taken c.args.state.now c.policy_sound-sound_policy.result c.loop-at.at c.loop-at.number c.loop-at.written c.loop-at.state c.loop-at.out c.loop-at.invariant.0 c.line_from-line.result _ c.write_bad-then-line-ge-WORDS.result c.loop-at-test.true c.requires.3 c.line_from-line.ensures).1 (omega (arith, c.if-line-ge-WORDS.true)) c.write_bad-then-line-ge-WORDS.ensures
+pub loop-reader-smaller : goal.loop-reader-smaller
+loop-reader-smaller c =
+    let same = c.loop-reader.invariant.0 in
+    let next = c.moved-reader.ensures.1 ∙ ap (λ (text : List ℕ). next_at text c.loop-reader.reader.at) same in
+    let inside : c.loop-reader.reader.at < length c.args.from.text.now = omega (arith, c.loop-reader-test.true, ap length same) in
+    omega (arith, next, inside, next-behind c.args.from.text.now c.loop-reader.reader.at inside)
 
-pub loop-at-smaller : goal.loop-at-smaller
-loop-at-smaller c = omega (arith, c.next_from-at.ensures, next-behind c.args.text.now c.loop-at.at c.loop-at-test.true)
-
-pub loop-at-preserved : goal.loop-at-preserved
-loop-at-preserved c = (runs_on (lent c.args.rules.now c.args.kinds.now c.args.rights.now) c.args.text.now c.args.from c.args.taken c.args.state.now c.policy_sound-sound_policy.result c.loop-at.at c.loop-at.number c.loop-at.written c.loop-at.state c.loop-at.out c.loop-at.invariant.0 c.line_from-line.result c.next_from-at.result c.answer_event-answer.result _ _ c.write_answer-written.result c.loop-at-test.true c.line_from-line.ensures c.next_from-at.ensures (omega arith) (omega arith) (search rules) (search rules) c.answer_event-answer.ensures.answer c.answer_event-answer.ensures.kept c.write_answer-written.ensures, c.write_answer-written.auto.out ∙ c.loop-at.invariant.1, c.answer_event-answer.auto.state ∙ c.loop-at.invariant.2)
+pub loop-reader-preserved : goal.loop-reader-preserved
+loop-reader-preserved c =
+    let same = c.loop-reader.invariant.0 in
+    let here = c.line.ensures ∙ ap (λ (text : List ℕ). line_at text c.loop-reader.reader.at) same in
+    let said = an_event _ c.line.result c.args.from.text.now c.loop-reader.reader.at here c.in-Some.line c.in-Some.ensures in
+    let next = c.moved-reader.ensures.1 ∙ ap (λ (text : List ℕ). next_at text c.loop-reader.reader.at) same in
+    let inside : c.loop-reader.reader.at < length c.args.from.text.now = omega (arith, c.loop-reader-test.true, ap length same) in (
+      ap (λ (text : _). text.now) c.moved-reader.ensures.0 ∙ same,
+      c.write_answer.ensures.same_bytes ∙ c.loop-reader.invariant.1,
+      runs_on _ _ _ _ _ _ _ _ _ _ _ c.loop-reader.invariant.2 (line_of_read c.in-Some.line) _ c.answer_event.result _ _ _ inside said next (search rules) (named_known c.in-Some.line.word) (search rules) (search rules) c.answer_event.ensures.answer c.answer_event.ensures.kept c.write_answer.ensures.wrote,
+      c.answer_event.auto.state ∙ c.loop-reader.invariant.3,
+    )

@@ -2,12 +2,16 @@
 use Prim.Native.Nat.{◌-◌}
 use mathlib.Core.Path.{◌≡◌}
 use lib.ListN.{length}
-use Rattle.inner.specs.Promise.{lent}
+use Rattle.model.specs.Answered.{tables_of}
 use Rattle.session.proofs.Runs.{Runs}
 use Rattle.session.proofs.run.Given as goal
 
-abbrev pub invariant-loop-at : goal.invariant-loop-at
-invariant-loop-at l = Runs (lent l.rules l.kinds l.rights) l.text l.from l.taken l.initial.state l.sound_policy l.at l.number l.written l.state l.out × (length l.out ≡ length l.initial.out) × (length l.state ≡ length l.initial.state)
+abbrev pub invariant-loop-reader : goal.invariant-loop-reader
+invariant-loop-reader l =
+    (l.reader.text.now ≡ l.from.text.now)
+    × (l.writer.out.ghost_name ≡ l.initial.writer.out.ghost_name)
+    × Runs (tables_of l.policy) l.from.text.now l.from.at l.taken l.initial.state l.sound_policy l.reader.at l.number l.writer.at l.state l.writer.out.now
+    × (length l.state ≡ length l.initial.state)
 
-abbrev pub decreases-loop-at : goal.decreases-loop-at
-decreases-loop-at l = length l.text - l.at
+abbrev pub decreases-loop-reader : goal.decreases-loop-reader
+decreases-loop-reader l = length l.from.text.now - l.reader.at
