@@ -149,19 +149,6 @@ fn entry_numbered<E: Entry + Default>(table: &[u16], i: usize) -> E
     }
 }
 
-// A lent number as an index.
-pub fn wide(x: u16) -> usize
-    ensures { result ≡ x }
-{
-    usize::from(x)
-}
-
-pub fn least(a: usize, b: usize) -> usize
-    ensures { result ≡ min a b }
-{
-    a.min(b)
-}
-
 // The rule of a number that has a row.
 #[tactic(auto, unfolding(crate::specs::Entries::rule_at))]
 pub fn rule_at(rules: &[u16], i: usize) -> Rule
