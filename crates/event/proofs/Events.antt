@@ -1,50 +1,49 @@
 -- An event is one call: which it is, that it is judged first, and that it leaves a sound state.
-use Prim.Native.Nat.{ℕ, zero, suc, ◌-◌, ◌≤◌, ◌<◌}
+use Prim.Native.Nat.{ℕ, ◌≤◌, ◌<◌}
 use mathlib.Core.Path.{◌≡◌, refl, ◌∙◌, subst⁻¹}
 use mathlib.Core.Bool.{false}
 use mathlib.Core.Logic.{◌⊎◌, inl, inr}
-use mathlib.Core.List.{List, [], ◌∷◌}
+use mathlib.Core.List.{List, []}
 use native.Mathlib.Omega.{arith}
 use lib.Dec.{T}
-use lib.ListN.{length, get_or}
 use Rattle.model.specs.Values.{Tables}
 use Rattle.model.specs.Layout.{policy_of}
 use Rattle.model.specs.Sound.{sound_policy, sound}
 use Rattle.model.specs.Outcome.{Course, judged_first}
-use Rattle.model.specs.Calls.{Call, fresh, course_of, answer}
+use Rattle.model.specs.Calls.{Call, course_of, answer}
 use Rattle.model.specs.Answered.{Answer}
 use Rattle.model.specs.declared.Reason.TheVariants.{MalformedPolicy}
 use Rattle.std.proofs.Common.{Err}
 use Rattle.model.proofs.Tests.{lt_or_ge}
 use Rattle.model.proofs.Refusals.{refused_unchanged}
 use Rattle.model.proofs.Accepted.{accepted-sound}
-use Rattle.program.specs.Program.{event_calls, line_call}
-use Rattle.program.specs.Lines.{Line}
+use Rattle.program.specs.Program.{line_call}
+use Rattle.program.specs.Said.{number_of, line_of_read}
+use Rattle.program.specs.declared.Line.{Line as Read}
+use Rattle.program.specs.declared.Word.{Word}
+use Rattle.program.specs.declared.Word.TheVariants.{Rule, Kind, Right, Activate, Appoint, Revoke, Withdraw, Env, Logout, Invoke, Effective}
 use Rattle.inner.specs.Promise.{Answers}
 use Rattle.calls.proofs.Judged.{unsound, no-policy}
 
 -- ── every event is judged first ──
 
-abbrev JudgedFirst : Tables → List ℕ → Call → Type 0
-JudgedFirst t s c = (course : Course) × (course_of t s [] c ≡ judged_first t s course)
+module _ (t : Tables) (s : List ℕ) (l : Read) where
+  event_judged : (w : Word) → 3 ≤ number_of w → (course : Course) × (course_of t s [] (line_call (record { word = number_of w; count = l.count; numbers = l.numbers })) ≡ judged_first t s course)
+  unfolding line_call course_of
+  event_judged Rule h = absurd (omega arith)
+  event_judged Kind h = absurd (omega arith)
+  event_judged Right h = absurd (omega arith)
+  event_judged Activate h = (_, refl)
+  event_judged Appoint h = (_, refl)
+  event_judged Revoke h = (_, refl)
+  event_judged Withdraw h = (_, refl)
+  event_judged Env h = (_, refl)
+  event_judged Logout h = (_, refl)
+  event_judged Invoke h = (_, refl)
+  event_judged Effective h = (_, refl)
 
-abbrev EachCall : (Call → Type 0) → List Call → Type 0
-EachCall P [] = Unit {0}
-EachCall P (c ∷ cs) = P c × EachCall P cs
-
-call_at : (P : Call → Type 0) (cs : List Call) → EachCall P cs → (d : Call) (i : ℕ) → i < length cs → P (get_or cs i d)
-call_at P [] e d i h = absurd (omega arith)
-call_at P (c ∷ cs) e d zero h = e.0
-call_at P (c ∷ cs) e d (suc i) h = call_at P cs e.1 d i (omega arith)
-
-event_judged : (t : Tables) (s : List ℕ) (l : Line) → 3 ≤ l.word → l.word < 11 → JudgedFirst t s (line_call l)
-unfolding line_call course_of
-event_judged t s l h k = call_at (JudgedFirst t s) (event_calls l) ((_, refl), ((_, refl), ((_, refl), ((_, refl), ((_, refl), ((_, refl), ((_, refl), ((_, refl), tt)))))))) fresh (l.word - 3) (omega arith)
-
-pub malformed_answers : (t : Tables) (s : List ℕ) (l : Line) → 3 ≤ l.word → l.word < 11 → sound_policy t ≡ false → Answers t s (line_call l) (Err MalformedPolicy) s
-malformed_answers t s l h k e =
-    let j : JudgedFirst t s (line_call l) = event_judged t s l h k in
-    unsound t s [] (line_call l) j.0 j.1 MalformedPolicy (no-policy t s e)
+  pub malformed_answers : 3 ≤ number_of l.word → sound_policy t ≡ false → Answers t s (line_call (line_of_read l)) (Err MalformedPolicy) s
+  malformed_answers h e = let j = event_judged l.word h in unsound t s [] (line_call (line_of_read l)) j.0 j.1 MalformedPolicy (no-policy t s e)
 
 -- ── soundness is kept ──
 

@@ -58,7 +58,8 @@ fn call(policy: Lent, state: &mut [u16], line: Line) -> Answer
     }
 }
 
-// With a malformed policy every event answers 1.
+// With a malformed policy every event answers 1. Whether the policy is sound goes beside its tables, and not in an `Option` around them:
+// what a malformed policy answers is said of its tables too.
 pub fn answer_event(policy: Lent, sound_policy: bool, state: &mut [u16], line: Line) -> Answer
     requires { SoundIf (tables_of policy) state.old sound_policy × (policy_words ≤ number_of line.word) }
     ensures answer { Answers (tables_of policy.entry) state.old (line_call (line_of_read line)) result state.new }

@@ -21,12 +21,11 @@ pub const MOST_BYTES: usize = 65536;
 
 // Answers the events from the reader's place on, until the text ends or a record is bad. The policy is complete when the first event
 // comes, so it is judged here, once; and a record of the policy is bad from now on.
-fn run(policy: Lent, from: Reader, taken: usize, state: &mut [u16], out: &mut [u8]) -> usize
-    requires { T (sound (policy_of (tables_of policy)) state.old) × (from.at ≤ length from.text.now) × (taken ≤ from.at) × (length from.text.now ≤ most_bytes) × (2 * length from.text.now + 16 ≤ length out.old) }
-    ensures { Holds out.new result (steps (running (tables_of policy.entry) state.old taken []) (lines_from from.entry.text.now from.entry.at)).written }
+fn run(policy: Lent, mut reader: Reader, taken: usize, state: &mut [u16], out: &mut [u8]) -> usize
+    requires { T (sound (policy_of (tables_of policy)) state.old) × (reader.at ≤ length reader.text.now) × (taken ≤ reader.at) × (length reader.text.now ≤ most_bytes) × (2 * length reader.text.now + 16 ≤ length out.old) }
+    ensures { Holds out.new result (steps (running (tables_of policy.entry) state.old taken []) (lines_from reader.entry.text.now reader.entry.at)).written }
 {
     let sound_policy = policy::policy_sound(policy);
-    let mut reader = from;
     let mut number = taken;
     let mut writer = Writer::new(out);
     while reader.at < reader.text.len() {

@@ -8,10 +8,10 @@ use Rattle.session.proofs.run.Given as goal
 
 abbrev pub invariant-loop-reader : goal.invariant-loop-reader
 invariant-loop-reader l =
-    (l.reader.text.now ≡ l.from.text.now)
+    (l.reader.text.now ≡ l.fn.reader.text.now)
     × (l.writer.out.ghost_name ≡ l.initial.writer.out.ghost_name)
-    × Runs (tables_of l.policy) l.from.text.now l.from.at l.taken l.initial.state l.sound_policy l.reader.at l.number l.writer.at l.state l.writer.out.now
+    × Runs (tables_of l.policy) l.fn.reader.text.now l.fn.reader.at l.taken l.initial.state l.sound_policy l.reader.at l.number l.writer.at l.state l.writer.out.now
     × (length l.state ≡ length l.initial.state)
 
 abbrev pub decreases-loop-reader : goal.decreases-loop-reader
-decreases-loop-reader l = length l.from.text.now - l.reader.at
+decreases-loop-reader l = length l.fn.reader.text.now - l.reader.at
