@@ -34,7 +34,8 @@ fn run(policy: Lent, mut reader: Reader, taken: usize, state: &mut [u16], out: &
             writer.write_bad(number);
             return writer.at;
         };
-        writer.write_answer(event::answer_event(policy, sound_policy, state, line));
+        let answer = event::answer_event(policy, sound_policy, state, line);
+        writer.write_answer(answer.into());
         reader = reader.moved();
     }
     writer.at

@@ -1,5 +1,7 @@
 use Prim.Native.Nat.{ℕ, ◌<◌}
-use mathlib.Core.Path.{ap, ◌∙◌}
+use mathlib.Core.Path.{ap, ◌∙◌, subst}
+use Rattle.program.specs.Program.{answer_record}
+use Rattle.writer.specs.Writing.{Wrote}
 use mathlib.Core.List.{List}
 use native.Mathlib.Omega.{arith}
 use lib.ListN.{length}
@@ -36,6 +38,7 @@ loop-reader-preserved c =
     let inside : c.loop-reader.reader.at < length c.args.reader.text.now = omega (arith, c.loop-reader-test.true, ap length same) in (
       ap (λ (text : _). text.now) c.moved-reader.ensures.0 ∙ same,
       c.write_answer.ensures.same_bytes ∙ c.loop-reader.invariant.1,
-      runs_on _ _ _ _ _ _ _ _ _ _ _ c.loop-reader.invariant.2 (line_of_read c.in-Some.line) _ c.answer_event.result _ _ _ inside said next (search rules) (named_known c.in-Some.line.word) (search rules) (search rules) c.answer_event.ensures.answer c.answer_event.ensures.kept c.write_answer.ensures.wrote,
-      c.answer_event.auto.state ∙ c.loop-reader.invariant.3,
+      runs_on _ _ _ _ _ _ _ _ _ _ _ c.loop-reader.invariant.2 (line_of_read c.in-Some.line) _ c.answer_event-answer.result _ _ _ inside said next (search rules) (named_known c.in-Some.line.word) (search rules) (search rules) c.answer_event-answer.ensures.answer c.answer_event-answer.ensures.kept
+          (subst (λ (bytes : List ℕ). Wrote c.loop-reader.writer.out.now c.write_answer.new.self.out.now c.loop-reader.writer.at bytes c.write_answer.new.self.at) (λ i. answer_record (c.into.ensures.0 i) (c.into.ensures.1 i)) c.write_answer.ensures.wrote),
+      c.answer_event-answer.auto.state ∙ c.loop-reader.invariant.3,
     )
