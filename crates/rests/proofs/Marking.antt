@@ -8,13 +8,13 @@ use mathlib.Core.List.{List, [], ◌∷◌, Memᴰ}
 use native.Mathlib.Omega.{arith}
 use lib.Dec.{eqb}
 use borrow.Author.Tests.{eqb-true, eqb-false}
-use lib.ListN.{length, get_or, take, set, length-take}
-use lib.Seq.{get_or-set_same, get_or-set_other, get_or-take, take_all}
+use lib.ListN.{length, get_or, set}
+use lib.Seq.{get_or-set_same, get_or-set_other}
 use Rattle.model.specs.Layout.{policy_of}
 use Rattle.model.specs.Conditions.{meant, roles_asked}
 use Rattle.model.proofs.Tests.{lt_or_ge, at_place, place_of}
 use Rattle.table.specs.Entries.{without_rights}
-use Rattle.rests.specs.Asked.{HasAsked, AskedThrough, Grown, ConditionAsked, Known, RowAsked}
+use Rattle.rests.specs.Asked.{HasAsked, AskedThrough, Grown, ConditionAsked, Known}
 use Rattle.rests.proofs.Asking.{asked-role}
 use Rattle.model.proofs.Meaning.{meant-role}
 
@@ -98,25 +98,6 @@ module _ (kinds : List ℕ) where
       go : (j < i) ⊎ (i ≤ j) → HasAsked kinds d (get_or cs j 0)
       go (inl m) = answered-keeps b d (get_or cs j 0) k.grown.keeps (h j m)
       go (inr m) = let at : i ≡ j = omega arith in subst (λ (x : ℕ). HasAsked kinds d x) (e ∙ ap (λ (n : ℕ). get_or cs n 0) at) k.answered
-
-  -- the first i of m conditions, as the list of the m
-  pub grown-within : (a b : List Bool) (cs ms : List ℕ) (i m : ℕ) → take m cs ≡ ms → i ≤ m → m ≤ length cs → Grown kinds a b cs i → Grown kinds a b ms (length ms)
-  grown-within a b cs ms i m e l f g = record { closed = g.closed; keeps = g.keeps; only = λ q k h. go q (g.only q k h) }
-    where
-      count : length ms ≡ m
-      count = ap length (sym e) ∙ simp length-take (omega arith)
-
-      go : (q : ℕ) → (get_or a q false ≡ true) ⊎ ((j : ℕ) × (j < i) × Memᴰ q (roles_asked (policy_of (without_rights [] kinds)) (meant (get_or cs j 0)))) → (get_or a q false ≡ true) ⊎ ((j : ℕ) × (j < length ms) × Memᴰ q (roles_asked (policy_of (without_rights [] kinds)) (meant (get_or ms j 0))))
-      go q (inl h) = inl h
-      go q (inr h) =
-          let within : h.0 < m = omega (arith, h.1) in
-          inr (h.0, omega (arith, count, within), subst (λ (x : ℕ). Memᴰ q (roles_asked (policy_of (without_rights [] kinds)) (meant x))) (sym (get_or-take m cs h.0 0 within) ∙ ap (λ (l : List ℕ). get_or l h.0 0) e) h.2)
-
-  pub each_within : (b : List Bool) (cs ms : List ℕ) (m : ℕ) → take m cs ≡ ms → m ≤ length cs → ((j : ℕ) → j < m → HasAsked kinds b (get_or cs j 0)) → (j : ℕ) → j < length ms → HasAsked kinds b (get_or ms j 0)
-  each_within b cs ms m e f h j l =
-      let count : length ms ≡ m = ap length (sym e) ∙ simp length-take (omega arith) in
-      let within : j < m = omega (arith, count) in
-      subst (λ (x : ℕ). HasAsked kinds b x) (sym (get_or-take m cs j 0 within) ∙ ap (λ (l : List ℕ). get_or l j 0) e) (h j within)
 
 -- ── the code's answers ──
 
@@ -225,13 +206,3 @@ module _ (a b : List Bool) (ms : List ℕ) (i : ℕ) (h : AskedSoFar a b ms i) w
   asked-next d c e k kinds t =
       let one : ConditionAsked kinds b d c = k.known refl kinds (h kinds t).0.closed in
       (grown-next kinds a b d ms i c e (h kinds t).0 one, each_next kinds b d ms i c e (h kinds t).1 one)
-
-  pub row-left : (d : List Bool) → d ≡ b → i ≤ length ms → RowAsked ms a d false
-  row-left d e l = record { grown = λ kinds c. subst⁻¹ (λ (x : List Bool). Grown kinds a x ms (length ms)) e (grown-within kinds a b ms ms i (length ms) (take_all (length ms) ms (omega arith)) l (omega arith) (h kinds c).0); each = λ z. absurd (true≢false (sym z)) }
-
-  pub row-asked : i ≡ length ms → RowAsked ms a b true
-  row-asked e =
-      record {
-        grown = λ kinds c. subst (Grown kinds a b ms) e (h kinds c).0;
-        each = λ z kinds c j l. (h kinds c).1 j (omega arith);
-      }
