@@ -1,4 +1,5 @@
-// What terminals link: the ten public calls for C. A slice is a pointer and a count; an answer is a struct by value.
+// What terminals link: the ten public calls for C, each under a name that C links. A slice is a pointer and a count, so the tables of a
+// policy come one by one; an answer is a struct by value.
 
 #![tactic(auto)]
 

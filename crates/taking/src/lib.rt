@@ -37,6 +37,7 @@ fn may_revoke(kinds: &[u16], state: &[u16], caller: u16, certificate: Certificat
     ensures { result ≡ may_revoke (decode state.now).rows (kind_numbered (policy_of (without_rights [] kinds.now)) certificate.kind) caller certificate.appointer }
 {
     let row = table::kind_numbered(kinds, usize::from(certificate.kind));
+    // A mode stays a number: lent tables hold any, and a policy is sound or not by them.
     match row.mode {
         0 => caller == certificate.appointer,
         1 => {

@@ -14,6 +14,7 @@ fn read_full<R: Read>(input: &mut R, buf: &mut [u8]) -> io::Result<usize>
     ensures { IfOk result (λ n. n ≤ length buf.new) }
 {
     let mut done: usize = 0;
+    // `read_exact` takes a short input for an error, and `read_to_end` asks for memory.
     while done < buf.len() {
         let n = input.read(&mut buf[done..])?;
         if n == 0 {

@@ -158,6 +158,7 @@ fn line_behind(bytes: &[u8], word: Word, from: usize) -> Option<Line>
     let mut numbers = [0; MOST_NUMBERS];
     let mut count = 0;
     let mut at = from;
+    // From the end of a field to the end of the next: no step is one place.
     while at < bytes.len() {
         if MOST_NUMBERS <= count {
             return None;

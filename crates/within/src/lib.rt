@@ -1,5 +1,5 @@
-// The ten calls without judging, so that they can be measured by themselves. Terminals do not link them: who calls one without sound
-// tables is promised nothing.
+// The ten calls without judging, each under a name that C links, so that they can be measured by themselves. Terminals do not link them:
+// who calls one without sound tables is promised nothing.
 
 #![tactic(auto)]
 
