@@ -36,6 +36,7 @@ impl<'a> Writer<'a> {
     }
 
     // The digits of the tenth part, unless it is zero, and a digit.
+    // `write!` may answer an error, and no clause of its says when it does not: a record cannot be lost here.
     fn write_decimal(&mut self, n: usize)
         requires { self.old.at + length (decimal n) ≤ length self.old.out.now }
         ensures same_bytes { self.new.out.ghost_name ≡ self.old.out.ghost_name }
