@@ -13,13 +13,14 @@ use Rattle.support.specs.declared.Verdict.TheVariants.{Stays, Falls, Twice}
 abbrev pub row_place : ℕ → ℕ
 row_place i = i * row_width + rows_at
 
--- row i was not said to fall
+-- a row of which this is said does not fall
 abbrev pub not_falling : Option Verdict → Bool
 not_falling None = true
 not_falling (Some Stays) = true
 not_falling (Some Falls) = false
 not_falling (Some Twice) = true
 
+-- row i was not said to fall
 abbrev pub is_kept : List (Option Verdict) → ℕ → Bool
 is_kept verdicts i = not_falling (said_of verdicts i)
 

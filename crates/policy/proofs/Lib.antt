@@ -3,3 +3,4 @@ pub mod Conditions
 pub mod Rights
 pub mod Unread
 pub mod Parts
+pub mod Constants

@@ -20,10 +20,11 @@ queues = 512
 abbrev pub queue : ℕ → ℕ
 queue u = u % queues
 
--- the entry that a number stands for, if it stands for one
+-- stands in the place of an entry where there is none
 abbrev pub no_entry : ℕ
 no_entry = most_entries
 
+-- the entry that a number stands for, if it stands for one
 abbrev pub entry : ℕ → Option ℕ
 entry k = cond (ltb k no_entry) (Some k) None
 
