@@ -16,7 +16,7 @@ ghost use Rattle.marks.specs.Owned.{InRange};
 ghost use Rattle.table.specs.Writes.{Moved};
 ghost use Rattle.fall.specs.Pass.{row_place, is_kept, Closed, RowsLeft, RowsKept};
 
-use model::{Lent, ROW_COUNT_AT, ROW_WIDTH, ROWS_AT, Row};
+use model::{Lent, MOST_ROWS, ROW_COUNT_AT, ROW_WIDTH, ROWS_AT, Row};
 use support::Verdict;
 
 // Row i stands behind the first w rows. A row that need not move is not written.
@@ -77,7 +77,8 @@ pub fn fall(policy: Lent, state: &mut [u16]) -> u16
     if state[ROW_COUNT_AT] == 0 {
         return 0;
     }
-    let verdicts = support::judge_rows(policy, state);
+    let mut verdicts = [None; MOST_ROWS];
+    support::judge_rows(policy, state, &mut verdicts);
     sweep(state, |i, _| is_kept(&verdicts, i))
 }
 

@@ -1,5 +1,5 @@
 -- What a queue says of the entries of a table: which one comes next, and that none of its own was passed over.
-use Rattle.std.specs.Prelude.{ℕ, ◌+◌, ◌*◌, ◌%◌, ◌≤◌, ◌<◌, ◌≡◌, ◌≢◌, cond, Option, Some, None, List, ltb, length, get_or}
+use Rattle.std.specs.Prelude.{ℕ, ◌+◌, ◌*◌, ◌%◌, ◌≤◌, ◌<◌, ◌≡◌, ◌≢◌, cond, Option, Some, None, List, ltb, length, get_or, replicate}
 use Rattle.queues.specs.declared.Queues.{Queues}
 
 -- how many numbers an entry has, and how many entries a table has at most
@@ -54,6 +54,10 @@ pub record GoesOn (s : List ℕ) (place n i : ℕ) (next : List ℕ) : Type 0 wh
 pub record Queued (s : List ℕ) (place n : ℕ) (q : Queues) : Type 0 where
   pub begun : Begins s place n 0 q.heads
   pub behind : GoesOn s place n 0 q.next
+
+-- no entry is queued yet
+abbrev pub unqueued : Queues
+unqueued = record { heads = replicate queues no_entry; next = replicate most_entries no_entry }
 
 -- the first entry of the user's queue, and the entry that comes behind entry k in its queue
 abbrev pub first_entry : Queues → ℕ → Option ℕ

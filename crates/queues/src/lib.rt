@@ -4,7 +4,7 @@
 #![tactic(auto)]
 
 ghost use Rattle.std.specs.Prelude.{◌≡◌, ◌+◌, ◌*◌, ◌≤◌, ◌<◌, length};
-ghost use Rattle.queues.specs.Queued.{entry_width, most_entries, queues, queue, entry, Queued, first_entry, entry_behind};
+ghost use Rattle.queues.specs.Queued.{entry_width, most_entries, queues, queue, entry, unqueued, Queued, first_entry, entry_behind};
 
 // How many queues there are.
 const QUEUES: usize = 512;
@@ -45,21 +45,26 @@ pub struct Queues {
 }
 
 impl Queues {
-    // The n entries that stand from `place` on.
-    pub fn of(state: &[u16], place: usize, n: usize) -> Queues
-        requires { (n ≤ most_entries) × (n * entry_width + place ≤ length state.now) }
-        ensures { Queued state.now place n result }
+    // No entry is queued yet.
+    pub fn empty() -> Queues
+        ensures { result ≡ unqueued }
     {
-        let mut queues = Queues {
+        Queues {
             heads: [NO_ENTRY; QUEUES],
             next: [NO_ENTRY; MOST_ENTRIES],
-        };
+        }
+    }
+
+    // The n entries that stand from `place` on are queued, in place: filled queues that are handed back are copied on the way.
+    pub fn queue_up(&mut self, state: &[u16], place: usize, n: usize)
+        requires { (n ≤ most_entries) × (n * entry_width + place ≤ length state.now) × (self.old ≡ unqueued) }
+        ensures { Queued state.now place n self.new }
+    {
         for i in (0..n).rev() {
             let b = queue_of(state[i * WIDTH + place]);
-            queues.next[i] = queues.heads[b];
-            queues.heads[b] = i as u16;
+            self.next[i] = self.heads[b];
+            self.heads[b] = i as u16;
         }
-        queues
     }
 
     // The first entry of the user's queue.

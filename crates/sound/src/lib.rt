@@ -200,7 +200,8 @@ fn rows_sound(policy: Lent, state: &[u16]) -> bool
     if !rows_fit(policy.rules, state) {
         return false;
     }
-    let verdicts = support::judge_rows(policy, state);
+    let mut verdicts = [None; MOST_ROWS];
+    support::judge_rows(policy, state, &mut verdicts);
     each_stays(&verdicts[..usize::from(state[ROW_COUNT_AT])])
 }
 

@@ -3,8 +3,9 @@
 
 #![tactic(auto)]
 
-ghost use Rattle.std.specs.Prelude.{◌≡◌, ◌≢◌, false, [], ℕ, ◌+◌, ◌<◌, replicate};
+ghost use Rattle.std.specs.Prelude.{◌≡◌, ◌≢◌, false, [], ℕ, ◌+◌, ◌<◌, None, replicate};
 ghost use Rattle.std.proofs.Props.{props};
+ghost use Rattle.model.specs.Limits.{most_rows};
 ghost use Rattle.model.specs.Layout.{decode, row_count, certificate_count, rows_at, certificates_at};
 ghost use Rattle.table.specs.Entries.{row_at, world_at};
 ghost use Rattle.marks.specs.Marked.{own_marks};
@@ -100,33 +101,36 @@ impl Pass<'_> {
     }
 
     // User after user: where a row is not judged yet, it is the first of its user's, and all of them are judged.
-    fn judge_each(&self) -> [Option<Verdict>; MOST_ROWS]
-        ensures { Judged (world_under self.now.policy self.now.state.now) self.now.state.now result }
+    fn judge_each(&self, verdicts: &mut [Option<Verdict>; MOST_ROWS])
+        requires { verdicts.old ≡ replicate most_rows None }
+        ensures { Judged (world_under self.now.policy self.now.state.now) self.now.state.now verdicts.new }
     {
-        let mut verdicts = [None; MOST_ROWS];
         for i in 0..usize::from(self.state[ROW_COUNT_AT]) {
             if verdicts[i].is_none() {
-                self.judge_from_first(i, &mut verdicts);
+                self.judge_from_first(i, verdicts);
             }
         }
-        verdicts
     }
 }
 
-// Says of each row whether it stays.
-pub fn judge_rows(policy: Lent, state: &[u16]) -> [Option<Verdict>; MOST_ROWS]
-    requires { InRange state.now }
-    ensures { Judged (world_at policy.entry.rules.now policy.entry.kinds.now state.now) state.now result }
+// Says of each row whether it stays. Nothing is said before.
+pub fn judge_rows(policy: Lent, state: &[u16], verdicts: &mut [Option<Verdict>; MOST_ROWS])
+    requires { InRange state.now × (verdicts.old ≡ replicate most_rows None) }
+    ensures { Judged (world_at policy.entry.rules.now policy.entry.kinds.now state.now) state.now verdicts.new }
 {
-    let n = usize::from(state[ROW_COUNT_AT]);
-    let m = usize::from(state[CERTIFICATE_COUNT_AT]);
-    let rows = Queues::of(state, ROWS_AT, n);
-    let certificates = Queues::of(state, CERTIFICATES_AT, m);
+    let mut rows = Queues::empty();
+    rows.queue_up(state, ROWS_AT, usize::from(state[ROW_COUNT_AT]));
+    let mut certificates = Queues::empty();
+    certificates.queue_up(
+        state,
+        CERTIFICATES_AT,
+        usize::from(state[CERTIFICATE_COUNT_AT]),
+    );
     let pass = Pass {
         policy,
         state,
         rows: &rows,
         certificates: &certificates,
     };
-    pass.judge_each()
+    pass.judge_each(verdicts);
 }

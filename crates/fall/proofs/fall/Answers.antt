@@ -12,6 +12,6 @@ returns-then-state-eq0 c = none_left _ c.args.state.now (formed c.args.state.now
 
 pub returns : goal.returns
 unfolding decode first_rows
-returns c = let verdicts = c.judge_rows-verdicts in
-    kept_as (is_kept verdicts.result) c.sweep.ensures (λ i l b k. search rules)
-    (staying-left (world_at c.args.policy.rules.now c.args.policy.kinds.now c.args.state.now) c.args.state.now verdicts.result verdicts.ensures (row_count c.args.state.now) (omega arith))
+returns c = let verdicts = c.judge_rows.new.verdicts in
+    kept_as (is_kept verdicts) c.sweep.ensures (λ i l b k. search rules)
+    (staying-left (world_at c.args.policy.rules.now c.args.policy.kinds.now c.args.state.now) c.args.state.now verdicts c.judge_rows.ensures (row_count c.args.state.now) (omega arith))
