@@ -1,19 +1,25 @@
 -- Rights that are judged by their numbers, sixteen at a time.
-use Prim.Native.Nat.{ℕ, zero, suc, ◌+◌, ◌*◌, ◌/◌, ◌%◌}
+use Prim.Native.Nat.{ℕ, zero, suc, ◌+◌, ◌*◌, ◌/◌, ◌%◌, ◌≤◌, ◌<◌}
 use mathlib.Core.Path.{◌≡◌, refl, sym, ap, ◌∙◌}
 use mathlib.Core.Bool.{Bool, true, false, not, ◌&&◌, ◌||◌, and-true, and_assoc}
+use mathlib.Core.Logic.{◌⊎◌, inl, inr}
 use mathlib.Core.List.{List, [], ◌∷◌}
 use native.Mathlib.Omega.{arith}
-use lib.Dec.{ltb}
-use lib.ListN.{length, take, drop}
+use native.Mathlib.Nat.{div-eq_of_lt, le-div_iff_mul-le}
+use lib.Bits.{bit_or}
+use lib.Dec.{eqb, ltb}
+use borrow.Author.Tests.{eq-eqb, ne_eqb, lt-ltb, le-ltb}
+use lib.ListN.{length, get_or, take, drop}
 use lib.Seq.{drop-drop}
 use Rattle.std.specs.List.{fold, zip}
 use Rattle.std.specs.Simd.{first_chunks}
 use Rattle.model.specs.Lists.{all}
 use Rattle.model.specs.Layout.{right_from, policy_of}
 use Rattle.model.specs.Sound.{right_clauses, right_fits}
+use Rattle.model.proofs.Tests.{lt_or_ge}
 use Rattle.table.specs.Entries.{lent}
-use Rattle.policy.specs.Fitting.{first_rights_fit}
+use Rattle.table.proofs.Zeros.{join_zero}
+use Rattle.policy.specs.Fitting.{first_rights_fit, alone_fits}
 
 -- ── the numbers beside their limits ──
 
@@ -74,9 +80,34 @@ by_sixteens (suc k) l =
     let e : 16 + k * 16 ≡ suc k * 16 = omega arith in
     (λ i. fit_alone 16 l i && by_sixteens k (drop 32 l) i) ∙ sym (fit-parts 16 (k * 16) l) ∙ ap (λ (m : ℕ). first_rights_fit m l) e
 
--- the right that two numbers make fits
-abbrev pub alone_fits : List ℕ → Bool
-alone_fits numbers = right_fits (right_from numbers)
+-- a number leaves nothing over exactly if it is below the limit
+none_over : (x limit : ℕ) → 0 < limit → eqb (x / limit) 0 ≡ ltb x limit
+none_over x limit p = go (lt_or_ge x limit)
+  where
+    go : (x < limit) ⊎ (limit ≤ x) → eqb (x / limit) 0 ≡ ltb x limit
+    go (inl h) = eq-eqb (x / limit) 0 (div-eq_of_lt h) ∙ sym (lt-ltb x limit h)
+    go (inr h) = ne_eqb (x / limit) 0 (λ e. omega (arith, e, (le-div_iff_mul-le {x = 1} {y = x} p).1 (omega (arith, h)))) ∙ sym (le-ltb x limit h)
+
+-- one right more: what it leaves over is joined
+right_over : (over role privilege : ℕ) → eqb (bit_or (bit_or over (role / 256)) (privilege / 1024)) 0 ≡ (eqb over 0 && right_fits (record { role = role; privilege = privilege }))
+unfolding right_clauses
+right_over over role privilege =
+    join_zero (bit_or over (role / 256)) (privilege / 1024)
+    ∙ (λ i. join_zero over (role / 256) i && none_over privilege 1024 (omega arith) i)
+    ∙ (λ i. (eqb over 0 && none_over role 256 (omega arith) i) && ltb privilege 1024)
+    ∙ and_assoc (eqb over 0) (ltb role 256) (ltb privilege 1024)
+    ∙ ap (λ (v : Bool). eqb over 0 && (ltb role 256 && v)) (sym (and-true (ltb privilege 1024)))
+
+-- what two numbers leave over their limits is joined
+abbrev pub joined : ℕ → List ℕ → ℕ
+joined so_far right = bit_or (bit_or so_far (get_or right 0 0 / 256)) (get_or right 1 0 / 1024)
+
+pub none_joined : (rights : List (List ℕ)) (o : ℕ) → eqb (fold joined o rights) 0 ≡ (eqb o 0 && all alone_fits rights)
+none_joined [] o = sym (and-true (eqb o 0))
+none_joined (r ∷ rs) o =
+    none_joined rs (joined o r)
+    ∙ ap (λ (b : Bool). b && all alone_fits rs) (right_over o (get_or r 0 0) (get_or r 1 0))
+    ∙ and_assoc (eqb o 0) (alone_fits r) (all alone_fits rs)
 
 one_by_one : (k : ℕ) (l : List ℕ) → all alone_fits (first_chunks 2 k l) ≡ first_rights_fit k l
 unfolding first_rights_fit

@@ -22,5 +22,9 @@ rights_only rights = policy_of (lent [] [] rights)
 unfoldable pub first_rights_fit : ℕ → List ℕ → Bool
 first_rights_fit count numbers = all right_fits (entries right_from right_width numbers count)
 
+-- the right that two numbers make fits
+abbrev pub alone_fits : List ℕ → Bool
+alone_fits numbers = right_fits (right_from numbers)
+
 abbrev pub rows_fit : Tables → Bool
 rows_fit t = (all (rule_fits (kinds_only t.kinds)) (rules_only t.rules).rules && all kind_fits (kinds_only t.kinds).kinds) && all right_fits (rights_only t.rights).rights

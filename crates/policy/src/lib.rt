@@ -6,11 +6,11 @@ ghost use Rattle.std.specs.Prelude.{◌≡◌, ℕ, Bool, ◌+◌, ◌/◌, ◌<
 ghost use Rattle.model.specs.Answered.{tables_of};
 ghost use Rattle.model.specs.Lists.{all, is_zero};
 ghost use Rattle.model.specs.Limits.{kind_width, most_kinds};
-ghost use Rattle.model.specs.Layout.{right_from};
 ghost use Rattle.model.specs.Conditions.{meant};
 ghost use Rattle.model.specs.Sound.{condition_fits, rule_fits, kind_fits, right_fits, sound_policy};
 ghost use Rattle.table.specs.Entries.{rules_only, kinds_only};
-ghost use Rattle.policy.specs.Fitting.{has_form, tables_formed, rights_only, first_rights_fit, rows_fit};
+ghost use Rattle.policy.specs.Counting.{Counting, RightLimits};
+ghost use Rattle.policy.specs.Fitting.{has_form, tables_formed, rights_only, first_rights_fit, alone_fits, rows_fit};
 
 use model::{
     FACTS, FIRST_FACT, FIRST_KIND, KIND_WIDTH, Kind, Lent, MOST_CONDITIONS, MOST_KINDS,
@@ -46,6 +46,12 @@ const COUNTING: [bool; 16] = [
     false, false,
 ];
 
+fn counting() -> &'static [bool; 16]
+    ensures { Counting result.now }
+{
+    &COUNTING
+}
+
 // 0 if nothing is wrong with the number: one that counts fits, and one past those is 0.
 fn wrong(x: u16, fits: bool, counts: bool) -> u16
     ensures { eqb result 0 ≡ cond counts fits (is_zero x) }
@@ -60,10 +66,11 @@ fn first_fit<const N: usize, F: Fn(u16) -> bool>(numbers: [u16; N], n: usize, fi
     requires few { (n ≤ N) × (N ≤ 8) }
     ensures { (test : ℕ → Bool) → ((x : ℕ) (b : Bool) → F.post fits x b → b ≡ test x) → result ≡ (all test (take n numbers.entry) && all is_zero (drop n numbers.entry)) }
 {
+    let counting = counting();
     let mut joined = 0;
     for j in 0..N {
         let x = numbers[j];
-        joined |= wrong(x, fits(x), COUNTING[MOST_CONDITIONS - n + j]);
+        joined |= wrong(x, fits(x), counting[MOST_CONDITIONS - n + j]);
     }
     joined == 0
 }
@@ -117,22 +124,29 @@ const LIMITS: [u16; 32] = [
     ROLES, PRIVILEGES,
 ];
 
+fn limits() -> &'static [u16; 32]
+    ensures { RightLimits result.now }
+{
+    &LIMITS
+}
+
 // Sixteen rights keep their limits. All numbers are looked at, so that the machine may take several in one step.
 fn sixteen_fit(numbers: &[u16; 32]) -> bool
     ensures { result ≡ first_rights_fit 16 numbers.now }
 {
     !numbers
         .iter()
-        .zip(&LIMITS)
+        .zip(limits())
         .fold(false, |over, (number, limit)| over | (*number >= *limit))
 }
 
-// "role, privilege", each in its range.
-#[tactic(auto, unfolding(model::specs::Sound::right_clauses))]
-fn right_fits(numbers: &[u16; 2]) -> bool
-    ensures { result ≡ right_fits (right_from numbers.now) }
+// "role, privilege", each in its range. What the numbers leave over their limits is joined, and is zero exactly if nothing is.
+fn each_fits(rights: &[[u16; 2]]) -> bool
+    ensures { result ≡ all alone_fits rights.now }
 {
-    numbers[0] < ROLES && numbers[1] < PRIVILEGES
+    rights.iter().fold(0, |over, right| {
+        over | right[0] / ROLES | right[1] / PRIVILEGES
+    }) == 0
 }
 
 // Sixteen rights at a time, and then what is left of them.
@@ -141,7 +155,7 @@ fn rights_fit(rights: &[u16]) -> bool
 {
     let (sixteens, rest) = rights.as_chunks::<32>();
     let (rest, _) = rest.as_chunks::<RIGHT_WIDTH>();
-    sixteens.iter().all(sixteen_fit) && rest.iter().all(right_fits)
+    sixteens.iter().all(sixteen_fit) && each_fits(rest)
 }
 
 // The table has whole rows, and not too many.
