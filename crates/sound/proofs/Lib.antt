@@ -4,3 +4,4 @@ pub mod Searching
 pub mod Judged
 pub mod Ranges
 pub mod Forms
+pub mod Facts

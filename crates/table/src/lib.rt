@@ -14,7 +14,7 @@ ghost use Rattle.table.specs.Writes.{Moved, Zeroed};
 
 use model::{
     CERTIFICATE_COUNT_AT, CERTIFICATE_WIDTH, CERTIFICATES_AT, Certificate, KIND_WIDTH, Kind,
-    MOST_CONDITIONS, MOST_PREREQUISITES, RIGHT_WIDTH, ROW_WIDTH, ROWS_AT, RULE_WIDTH, Right, Row,
+    MOST_CONDITIONS, RIGHT_WIDTH, ROW_WIDTH, ROWS_AT, RULE_WIDTH, Right, Row,
     Rule,
 };
 
@@ -64,14 +64,13 @@ impl Entry for Kind {
 
     ghost some_numbers = { lit< tt };
 
+    // The prerequisite roles are read one by one: a copy of four numbers is not judged in one step.
     fn read(numbers: &[u16]) -> Kind {
-        let mut prerequisites = [0; MOST_PREREQUISITES];
-        prerequisites.copy_from_slice(&numbers[3..]);
         Kind {
             appointer: numbers[0],
             mode: numbers[1],
             s: numbers[2],
-            prerequisites,
+            prerequisites: [numbers[3], numbers[4], numbers[5], numbers[6]],
         }
     }
 }

@@ -40,6 +40,13 @@ decimal_digits (suc k) h = split k (suc k) h ∙ ap (λ (higher : List ℕ). hig
 pub decimal_longer : (n : ℕ) → 10 ≤ n → length (decimal n) ≡ length (decimal (n / 10)) + 1
 decimal_longer n h = ap length (decimal_digits n h) ∙ length-append (decimal (n / 10)) ((48 + n % 10) ∷ [])
 
+pub decimal_some : (n : ℕ) → 1 ≤ length (decimal n)
+decimal_some n = go (lt_or_ge n 10)
+  where
+    go : (n < 10) ⊎ (10 ≤ n) → 1 ≤ length (decimal n)
+    go (inl h) = omega (arith, ap length (decimal_digit n h))
+    go (inr h) = omega (arith, decimal_longer n h)
+
 -- what stands before the last digit of a number: the digits of the tenth part, or nothing where there is one digit
 pub record Led (n : ℕ) (out out' : List ℕ) (at next : ℕ) : Type 0 where
   pub higher : List ℕ

@@ -1,5 +1,5 @@
 use native.Mathlib.Omega.{arith}
-use Rattle.writer.proofs.Decimals.{decimal_longer, led_by_none, led_by_tenth, digit_fits, led_to}
+use Rattle.writer.proofs.Decimals.{decimal_longer, decimal_some, led_by_none, led_by_tenth, digit_fits, led_to}
 use Rattle.writer.proofs.Writer.+write_decimal.Goals.{then-higher-gt0, else-higher-gt0}
 use Rattle.writer.proofs.Writer.+write_decimal.Goals as goal
 
@@ -10,7 +10,7 @@ pub write-requires : goal.write-requires
 write-requires t c =
     elim c.if-higher-gt0.branch [
       | then-higher-gt0 w ↦ rw w.self-is (digit_fits _ _ _ _ _ (led_by_tenth c.args.n _ _ _ _ (omega (arith, w.if-higher-gt0.true)) w.write_decimal.ensures.wrote) c.requires)
-      | else-higher-gt0 w ↦ rw w.self-is (digit_fits _ _ _ _ _ (led_by_none c.args.n _ _ (omega (arith, w.if-higher-gt0.false))) c.requires)
+      | else-higher-gt0 w ↦ rw w.self-is (omega (arith, decimal_some c.args.n, c.requires))
     ]
 
 pub returns-clause-wrote : goal.returns-clause-wrote
