@@ -14,8 +14,7 @@ ghost use Rattle.table.specs.Writes.{Moved, Zeroed};
 
 use model::{
     CERTIFICATE_COUNT_AT, CERTIFICATE_WIDTH, CERTIFICATES_AT, Certificate, KIND_WIDTH, Kind,
-    MOST_CONDITIONS, RIGHT_WIDTH, ROW_WIDTH, ROWS_AT, RULE_WIDTH, Right, Row,
-    Rule,
+    MOST_CONDITIONS, RIGHT_WIDTH, ROW_WIDTH, ROWS_AT, RULE_WIDTH, Right, Row, Rule,
 };
 
 // A row of a table: how many numbers it has, and what they say.
