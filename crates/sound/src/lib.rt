@@ -19,14 +19,15 @@ use model::{
 };
 use support::Verdict;
 
-// "64 facts, each 0 or 1". What they are over 1 is joined and looked at once, so that the machine may take several facts in one step.
+// "64 facts, each 0 or 1". The half of each is joined, and the halves are looked at once, so that the machine may take several facts in one
+// step.
 fn facts_are_bits(state: &[u16]) -> bool
     requires { length state.now ≡ state_size }
     ensures { result ≡ all is_bit (fact_numbers state.now) }
 {
     state[..FACTS_END]
         .iter()
-        .fold(0, |over, fact| over | *fact / 2)
+        .fold(0, |joined, fact| joined | *fact / 2)
         == 0
 }
 

@@ -4,7 +4,7 @@ use lib.Dec.{eqb}
 use lib.Seq.{length-take-le}
 use Rattle.std.proofs.lemmas.Iterator.{YieldsList-from_slice}
 use Rattle.std.proofs.lemmas.Iterator.Consumers.{fold_from_yields_List}
-use Rattle.sound.proofs.Facts.{over_bits, none_over}
+use Rattle.sound.proofs.Facts.{halves, halves_none}
 use Rattle.sound.proofs.facts_are_bits.Goals as goal
 
 pub slice_bounds-iter-end : goal.slice_bounds-iter-end
@@ -12,5 +12,5 @@ slice_bounds-iter-end c = sym (length-take-le 64 c.args.state.now (omega arith))
 
 pub returns : goal.returns
 returns c =
-    ap (λ (n : ℕ). eqb n 0) (fold_from_yields_List _ over_bits 0 _ c.fold.ensures.ran (YieldsList-from_slice (take 64 c.args.state.now) cc) (λ a x b q k. search (rules, tests)))
-    ∙ none_over (take 64 c.args.state.now) 0
+    ap (λ (n : ℕ). eqb n 0) (fold_from_yields_List _ halves 0 _ c.fold.ensures.ran (YieldsList-from_slice (take 64 c.args.state.now) cc) (λ a x b q k. search (rules, tests)))
+    ∙ halves_none (take 64 c.args.state.now) 0
